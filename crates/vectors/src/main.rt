@@ -1,0 +1,7 @@
+// Published vectors and worked examples, one line a case: its name, its inputs and what the proved functions give.
+mod des;
+mod print;
+
+fn main() {
+    des::print_all();
+}

@@ -1,0 +1,47 @@
+//! Bytes, digits and hexadecimal text.
+
+/// Exclusive-or of two strings of eight bytes.
+pub fn xor(a: [u8; 8], b: [u8; 8]) -> [u8; 8] {
+    std::array::from_fn(|i| a[i] ^ b[i])
+}
+
+/// All bits of eight bytes turned.
+pub fn turned(block: [u8; 8]) -> [u8; 8] {
+    block.map(|byte| 0xFF - byte)
+}
+
+/// A slice as an array; its length is known to be `N`.
+pub fn array<const N: usize>(bytes: &[u8]) -> [u8; N] {
+    bytes.try_into().expect("the length was checked before")
+}
+
+/// Left 8 bytes of a 16-byte key.
+pub fn left(key: &[u8; 16]) -> [u8; 8] {
+    array(&key[..8])
+}
+
+/// Right 8 bytes of a 16-byte key.
+pub fn right(key: &[u8; 16]) -> [u8; 8] {
+    array(&key[8..])
+}
+
+/// Sixteen half-bytes as eight bytes, the first half-byte on the left.
+pub fn pack(half_bytes: &[u8]) -> [u8; 8] {
+    assert_eq!(half_bytes.len(), 16);
+    std::array::from_fn(|i| half_bytes[2 * i] * 16 + half_bytes[2 * i + 1])
+}
+
+/// Whether every byte is a text digit.
+pub fn all_digits(text: &[u8]) -> bool {
+    text.iter().all(|byte| b"0123456789".contains(byte))
+}
+
+/// Values of text digits.
+pub fn digit_values(text: &[u8]) -> Vec<u8> {
+    text.iter().map(|digit| digit - b'0').collect()
+}
+
+/// Bytes as capital hexadecimal digits.
+pub fn hex(bytes: &[u8]) -> String {
+    bytes.iter().map(|byte| format!("{byte:02X}")).collect()
+}

@@ -1,0 +1,271 @@
+//! DUKPT on the host and in the terminal, single length (01, terminal keys;
+//! 002).
+
+use crate::bytes::{array, left, right, xor};
+use crate::des::{encrypt, triple_encrypt};
+use crate::numbers::{
+    require, Answer, EXHAUSTED, HOST_COUNTER, ROOM, SAME_HALVES, SIZE, TERMINAL_STATE,
+};
+
+/// Number of registers and of counter bits.
+pub const REGISTERS: usize = 21;
+/// Largest number that the 21 counter bits hold.
+const LARGEST_COUNTER: u32 = 0x1F_FFFF;
+/// Length of a record's byte form.
+pub const RECORD_BYTES: usize = 187;
+
+/// The terminal's state.
+#[derive(Clone, Debug, PartialEq, Eq)]
+pub struct Record {
+    /// Registers 0 to 20; register b belongs to the bit worth 2 to the power b.
+    pub keys: [[u8; 8]; REGISTERS],
+    /// Which registers are filled: bit b for register b.
+    pub filled: u32,
+    /// Serial number with its counter bits cleared.
+    pub serial: [u8; 10],
+    /// Counter to be given out next; 0 when exhausted.
+    pub counter: u32,
+    /// Whether the terminal is exhausted.
+    pub exhausted: bool,
+}
+
+/// What a terminal's call for its next key gives.
+#[derive(Clone, Debug, PartialEq, Eq)]
+pub struct NextKey {
+    /// The key given out.
+    pub key: [u8; 8],
+    /// Serial number with the counter of that key in it.
+    pub serial: [u8; 10],
+    /// The state after the call.
+    pub record: Record,
+}
+
+/// Whether bit b of a counter or mask is 1.
+fn bit(number: u32, b: usize) -> bool {
+    number >> b & 1 == 1
+}
+
+/// The lowest one bit of a counter that is not 0.
+fn lowest(counter: u32) -> usize {
+    let mut bits = 0..REGISTERS;
+    bits.find(|b| bit(counter, *b)).expect("a one bit")
+}
+
+/// The bits of a counter above b, plus bit b.
+fn above_plus(counter: u32, b: usize) -> u32 {
+    let above = (b + 1..REGISTERS).filter(|above| bit(counter, *above));
+    above.fold(1 << b, |sum, above| sum + (1 << above))
+}
+
+/// From 1 up in 21 bits, with at most ten one bits.
+fn permitted(counter: u32) -> bool {
+    let one_bits = (0..REGISTERS).filter(|b| bit(counter, *b)).count();
+    (1..=LARGEST_COUNTER).contains(&counter) && one_bits <= 10
+}
+
+/// The smallest permitted counter above, if there is one.
+pub fn next_counter(counter: u32) -> Option<u32> {
+    (counter + 1..=LARGEST_COUNTER).find(|above| permitted(*above))
+}
+
+/// The 21-bit counter at the end of a serial number.
+fn counter_of(serial: &[u8; 10]) -> u32 {
+    let last = u32::from_be_bytes([0, serial[7], serial[8], serial[9]]);
+    last & LARGEST_COUNTER
+}
+
+/// A serial number with its counter bits replaced.
+pub fn with_counter(serial: &[u8; 10], counter: u32) -> [u8; 10] {
+    let [_, high, middle, low] = counter.to_be_bytes();
+    let mut replaced = *serial;
+    replaced[7] = serial[7] & 0xE0 | high;
+    replaced[8] = middle;
+    replaced[9] = low;
+    replaced
+}
+
+/// The last 8 bytes of a serial number with its counter bits replaced.
+fn data(serial: &[u8; 10], counter: u32) -> [u8; 8] {
+    array(&with_counter(serial, counter)[2..])
+}
+
+/// One-way step: data exclusive-or key, enciphered under the key, exclusive-or
+/// key again (002, Tb, Tc and the new Ka). All bits of the key take part.
+fn one_way(data: [u8; 8], key: [u8; 8]) -> [u8; 8] {
+    xor(encrypt(&key, &xor(data, key)), key)
+}
+
+/// Register key of a counter: from the initial key and the cleared data, a step
+/// for each one bit, highest first, which is set in the data.
+pub fn register_key(initial: [u8; 8], serial: &[u8; 10], counter: u32) -> [u8; 8] {
+    let mut key = initial;
+    let mut set = 0;
+    for b in (0..REGISTERS).rev() {
+        if bit(counter, b) {
+            set += 1 << b;
+            key = one_way(data(serial, set), key);
+        }
+    }
+    key
+}
+
+/// The key given out: FF exclusive-or'd into the last byte.
+fn given_out(register_key: [u8; 8]) -> [u8; 8] {
+    xor(register_key, [0, 0, 0, 0, 0, 0, 0, 0xFF])
+}
+
+/// 6, then 9.
+fn host_inputs(derivation: &[u8], serial: &[u8]) -> Result<([u8; 16], [u8; 10]), u8> {
+    require(derivation.len() == 16, SIZE)?;
+    require(serial.len() == 10, SIZE)?;
+    let derivation = array(derivation);
+    require(left(&derivation) != right(&derivation), SAME_HALVES)?;
+    Ok((derivation, array(serial)))
+}
+
+/// Triple DES of the serial number's first 8 bytes, low five bits cleared.
+fn initial_of(derivation: &[u8; 16], serial: &[u8; 10]) -> [u8; 8] {
+    let cleared = with_counter(serial, 0);
+    triple_encrypt(derivation, &array(&cleared[..8]))
+}
+
+/// Initial key of a serial number, whatever its counter: 6, 9.
+pub fn initial_key(derivation: &[u8], serial: &[u8]) -> Answer {
+    let (derivation, serial) = host_inputs(derivation, serial)?;
+    Ok(initial_of(&derivation, &serial).to_vec())
+}
+
+/// The host's key for a serial number with its counter: 6, 9, 10.
+pub fn host_key(derivation: &[u8], serial: &[u8]) -> Answer {
+    let (derivation, serial) = host_inputs(derivation, serial)?;
+    let counter = counter_of(&serial);
+    require(permitted(counter), HOST_COUNTER)?;
+    let initial = initial_of(&derivation, &serial);
+    Ok(given_out(register_key(initial, &serial, counter)).to_vec())
+}
+
+/// Whether register b is filled when the counter is next: b is its lowest one
+/// bit l, or b is above l and that bit of the counter is 0.
+fn is_filled(counter: u32, b: usize) -> bool {
+    let l = lowest(counter);
+    b == l || (b > l && !bit(counter, b))
+}
+
+/// The filled mask when a counter is next.
+fn filled_mask(counter: u32) -> u32 {
+    let filled = (0..REGISTERS).filter(|b| is_filled(counter, *b));
+    filled.map(|b| 1 << b).sum()
+}
+
+/// Exhausted: all registers empty and the counter 0. Otherwise a permitted
+/// counter with its registers filled and no others.
+fn counter_and_mask_agree(record: &Record) -> bool {
+    if record.exhausted {
+        record.counter == 0 && record.filled == 0
+    } else {
+        permitted(record.counter) && record.filled == filled_mask(record.counter)
+    }
+}
+
+/// Whether a record hangs together. Only the bytes in a filled register are not
+/// looked at.
+pub fn hangs_together(record: &Record) -> bool {
+    let empty = (0..REGISTERS).filter(|b| !bit(record.filled, *b));
+    let empty_are_zero = empty.map(|b| record.keys[b]).all(|key| key == [0; 8]);
+    let serial_is_cleared = counter_of(&record.serial) == 0;
+    counter_and_mask_agree(record) && empty_are_zero && serial_is_cleared
+}
+
+/// Loading: the counter bits of the serial number are cleared and counter 1 is
+/// next; register b holds the register key of bit b alone: 6.
+pub fn terminal_load(initial: &[u8], serial: &[u8]) -> Result<Record, u8> {
+    require(initial.len() == 8, SIZE)?;
+    require(serial.len() == 10, SIZE)?;
+    let serial = with_counter(&array(serial), 0);
+    Ok(Record {
+        keys: std::array::from_fn(|b| register_key(array(initial), &serial, 1 << b)),
+        filled: filled_mask(1),
+        serial,
+        counter: 1,
+        exhausted: false,
+    })
+}
+
+/// Past the last counter: all registers empty and the counter 0.
+fn exhausted(serial: [u8; 10]) -> Record {
+    Record {
+        keys: [[0; 8]; REGISTERS],
+        filled: 0,
+        serial,
+        counter: 0,
+        exhausted: true,
+    }
+}
+
+/// What register b holds when `next` is next. Above l it holds it already. Below
+/// l the bits of `next` above b are the counter given out, so its key is one
+/// step from the register key just used.
+fn new_register(record: &Record, next: u32, b: usize) -> [u8; 8] {
+    let l = lowest(record.counter);
+    if !is_filled(next, b) {
+        [0; 8]
+    } else if b > l {
+        record.keys[b]
+    } else {
+        let counter = above_plus(next, b);
+        assert_eq!(counter, record.counter + (1 << b));
+        one_way(data(&record.serial, counter), record.keys[l])
+    }
+}
+
+/// The record after its counter was given out.
+fn following(record: &Record) -> Record {
+    let Some(next) = next_counter(record.counter) else {
+        return exhausted(record.serial);
+    };
+    Record {
+        keys: std::array::from_fn(|b| new_register(record, next, b)),
+        filled: filled_mask(next),
+        serial: record.serial,
+        counter: next,
+        exhausted: false,
+    }
+}
+
+/// The terminal's next key, from the register of the counter's lowest one bit:
+/// 11, 12, 13.
+pub fn terminal_next_key(record: &Record, room: usize) -> Result<NextKey, u8> {
+    require(hangs_together(record), TERMINAL_STATE)?;
+    require(!record.exhausted, EXHAUSTED)?;
+    require(room >= 8, ROOM)?;
+    Ok(NextKey {
+        key: given_out(record.keys[lowest(record.counter)]),
+        serial: with_counter(&record.serial, record.counter),
+        record: following(record),
+    })
+}
+
+/// Byte form: registers 0 to 20, filled mask, serial number, counter, exhausted.
+pub fn to_bytes(record: &Record) -> Vec<u8> {
+    let mut bytes = record.keys.concat();
+    bytes.extend(record.filled.to_be_bytes());
+    bytes.extend(record.serial);
+    bytes.extend(record.counter.to_be_bytes());
+    bytes.push(record.exhausted as u8);
+    bytes
+}
+
+/// The record of a byte form: another length is 6, no valid record is 11.
+pub fn from_bytes(bytes: &[u8]) -> Result<Record, u8> {
+    require(bytes.len() == RECORD_BYTES, SIZE)?;
+    require(bytes[186] <= 1, TERMINAL_STATE)?;
+    let record = Record {
+        keys: std::array::from_fn(|b| array(&bytes[8 * b..8 * b + 8])),
+        filled: u32::from_be_bytes(array(&bytes[168..172])),
+        serial: array(&bytes[172..182]),
+        counter: u32::from_be_bytes(array(&bytes[182..186])),
+        exhausted: bytes[186] == 1,
+    };
+    require(hangs_together(&record), TERMINAL_STATE)?;
+    Ok(record)
+}

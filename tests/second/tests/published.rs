@@ -1,0 +1,166 @@
+//! Published values: FIPS and NBS, and documents 000, 001, 002 and 004.
+
+mod common;
+
+use common::{hex, sized, DERIVATION, SERIAL, SUBSTITUTION};
+use second::des::{decrypt, encrypt, entries_read, triple_decrypt, triple_encrypt, ENTRIES};
+use second::{card, dukpt, pin};
+use std::collections::BTreeSet;
+
+/// DES both ways: key, block, result.
+fn check_des(key: &str, block: &str, result: &str) {
+    let (key, block, result) = (sized(key), sized(block), sized(result));
+    assert_eq!(encrypt(&key, &block), result);
+    assert_eq!(decrypt(&key, &result), block);
+}
+
+#[test]
+fn worked_vector() {
+    check_des("133457799BBCDFF1", "0123456789ABCDEF", "85E813540F0AB405");
+}
+
+#[test]
+fn nbs_initial_permutation_and_expansion() {
+    let key = "0101010101010101";
+    check_des(key, "95F8A5E5DD31D900", "8000000000000000");
+    check_des(key, "DD7F121CA5015619", "4000000000000000");
+    check_des(key, "2E8653104F3834EA", "2000000000000000");
+    check_des(key, "8000000000000000", "95F8A5E5DD31D900");
+    check_des(key, "4000000000000000", "DD7F121CA5015619");
+    check_des(key, "2000000000000000", "2E8653104F3834EA");
+}
+
+#[test]
+fn nbs_key_permutation() {
+    check_des("8001010101010101", "0000000000000000", "95A8D72813DAA94D");
+    check_des("4001010101010101", "0000000000000000", "0EEC1487DD8C26D5");
+}
+
+#[test]
+fn nbs_data_permutation() {
+    check_des("1046913489980131", "0000000000000000", "88D55E54F54C97B4");
+    check_des("1007103489988020", "0000000000000000", "0C0CC00C83EA48FD");
+}
+
+#[test]
+fn nbs_substitution_tables() {
+    let mut entries = BTreeSet::new();
+    for [key, block, result] in SUBSTITUTION {
+        check_des(key, block, result);
+        entries.extend(entries_read(&sized(key), &sized(block)));
+    }
+    assert_eq!(entries.len(), ENTRIES);
+}
+
+#[test]
+fn one_encryption_reads_at_most_sixteen_entries_of_each_box() {
+    let read = entries_read(&sized("133457799BBCDFF1"), &sized("0123456789ABCDEF"));
+    for s_box in 1..=8 {
+        let count = read.iter().filter(|entry| entry.0 == s_box).count();
+        assert!((1..=16).contains(&count));
+    }
+    // First round of the worked vector: E(R0) + K1 is
+    // 011000 010001 011110 111010 100001 100110 010100 100111.
+    for entry in [
+        (1, 0, 12),
+        (2, 1, 8),
+        (3, 0, 15),
+        (4, 2, 13),
+        (5, 3, 0),
+        (6, 2, 3),
+        (7, 0, 10),
+        (8, 3, 3),
+    ] {
+        assert!(read.contains(&entry));
+    }
+}
+
+#[test]
+fn low_bits_of_key_bytes_have_no_effect() {
+    let key: [u8; 8] = sized("133457799BBCDFF1");
+    let turned = key.map(|byte| byte ^ 1);
+    let block = sized("0123456789ABCDEF");
+    assert_eq!(encrypt(&key, &block), encrypt(&turned, &block));
+    assert_eq!(decrypt(&key, &block), decrypt(&turned, &block));
+}
+
+#[test]
+fn triple_des_with_equal_halves_is_des() {
+    let key: [u8; 8] = sized("133457799BBCDFF1");
+    let double: [u8; 16] = [key, key].concat().try_into().unwrap();
+    let block = sized("0123456789ABCDEF");
+    assert_eq!(triple_encrypt(&double, &block), encrypt(&key, &block));
+    assert_eq!(triple_decrypt(&double, &block), decrypt(&key, &block));
+}
+
+#[test]
+fn document_000_pin_blocks() {
+    let made = |card: &[u8]| pin::make_with_card(b"123456", card);
+    assert_eq!(pin::make(b"123456"), Ok(hex("06123456FFFFFFFF")));
+    assert_eq!(made(b"123456789012345678"), Ok(hex("061253DFFEDCBA98")));
+    assert_eq!(made(b"1234567890123456"), Ok(hex("0612713176FEDCBA")));
+}
+
+#[test]
+fn document_001_card_key_low_bits_aside() {
+    let master = hex("0123456789ABCDEFFEDCBA9876543210");
+    let key = card::card_key(&master, b"4219876543210987", 0).unwrap();
+    let without_low_bits = |key: Vec<u8>| -> Vec<u8> { key.iter().map(|b| b & 0xFE).collect() };
+    let odd = hex("9249345E0220CEBA0D20D6A2453BF407");
+    let even = hex("9348355F0321CFBB0C21D7A3443AF506");
+    assert_eq!(without_low_bits(key.clone()), without_low_bits(odd));
+    assert_eq!(without_low_bits(key), without_low_bits(even));
+}
+
+#[test]
+fn document_001_last_step() {
+    let session_key = hex("E57C032E6FE8AA94D0D72FF8E4D4DFBC");
+    // Its printed data without the padding 800000.
+    let data = hex("00000000100000000000000007100000000000071013020500\
+                    30901B6A3C00005503A4A082");
+    assert_eq!(data.len(), 37);
+    assert_eq!(card::arqc(&session_key, &data), Ok(hex("6BC76F457CC4FB24")));
+}
+
+#[test]
+fn document_002_initial_key() {
+    let (derivation, serial) = (hex(DERIVATION), hex(SERIAL));
+    let ca = sized("0123 4567 89AB CDE0");
+    let cb = encrypt(&sized(&DERIVATION[..19]), &ca);
+    let cc = decrypt(&sized(&DERIVATION[20..]), &cb);
+    assert_eq!(cb.to_vec(), hex("6497 E2F4 C59D 952E"));
+    assert_eq!(cc.to_vec(), hex("0163 CE85 359F F599"));
+    let initial = dukpt::initial_key(&derivation, &serial);
+    assert_eq!(initial, Ok(hex("21EE 7C08 DBE8 20AB")));
+}
+
+#[test]
+fn document_002_current_key() {
+    let initial = sized("21EE 7C08 DBE8 20AB");
+    let serial = sized(SERIAL);
+    let tc1 = encrypt(&initial, &sized("6489 F5A3 1618 20AB"));
+    assert_eq!(tc1.to_vec(), hex("F9AC C638 1939 44BC"));
+    let ka2 = dukpt::register_key(initial, &serial, 0x10_0000);
+    assert_eq!(ka2.to_vec(), hex("D842 BA30 C2D1 6417"));
+    let tc20 = encrypt(&ka2, &sized("9D25 339B 0F21 6416"));
+    assert_eq!(tc20.to_vec(), hex("BF49 836E AE2A 042A"));
+    let last = dukpt::register_key(initial, &serial, 0x10_0001);
+    assert_eq!(last.to_vec(), hex("670B 395E 6CFB 603D"));
+    let key = dukpt::host_key(&hex(DERIVATION), &serial);
+    assert_eq!(key, Ok(hex("670B 395E 6CFB 60C2")));
+}
+
+#[test]
+fn document_004_keys_and_cryptograms() {
+    let master = hex("F0C34A8124CEE0A91A0B034AA97D6EAC");
+    let card_key = card::card_key(&master, b"6228000100001", 1).unwrap();
+    assert_eq!(card_key, hex("014D996FCC8F49157DC8B49E3BCDFD99"));
+    let session_key = card::session_key(&card_key, [0x02, 0x40]).unwrap();
+    assert_eq!(session_key, hex("D4102725E6E5AD329E55AAB50BF23DA9"));
+    let data = hex("0000000000010000000000000156008004600001561407010\
+                    01E78EEBC7D00024003A04002");
+    let arqc = card::arqc(&session_key, &data).unwrap();
+    assert_eq!(arqc, hex("5D016C91005E7CC2"));
+    let arpc = card::arpc(&session_key, &arqc, b"01");
+    assert_eq!(arpc, Ok(hex("21415243527CE78F")));
+}
