@@ -1,7 +1,9 @@
 // Published vectors and worked examples, one line a case: its name, its inputs and what the proved functions give.
 mod des;
+mod keys;
 mod print;
 
 fn main() {
     des::print_all();
+    keys::print_all();
 }

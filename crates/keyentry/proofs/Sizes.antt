@@ -1,0 +1,50 @@
+-- Laws on the sizes of keys, and the tests of key entry in their order.
+use borrow.Author.Tests.{eqb-true}
+use mathlib.Core.Path.{_≡_}
+use mathlib.Core.Bool.{true, false}
+use mathlib.Core.List.{List}
+use Prim.Native.Nat.{ℕ, suc, _≤_}
+use native.Mathlib.Omega.{arith}
+use lib.Dec.{eqb}
+use Rattle.lent.specs.Choice.{all}
+use Rattle.lent.specs.Numbers.{size, character}
+use Rattle.lent.specs.Result.{done, refused, number}
+use Rattle.lent.proofs.Laws.{cases}
+use Rattle.keyentry.specs.Hexadecimal.{hexadecimal}
+use Rattle.keyentry.specs.KeyEntry.{keyOf, keySize, fullText, keyEntry}
+use Rattle.keyentry.specs.declared.units.Bytes.{Bytes}
+
+never : {n : ℕ} → 0 ≡ suc n → ⊥
+never e = omega arith
+
+-- a key has at most 16 bytes
+pub key-size-le : (wanted : Bytes) → keySize wanted ≡ true → wanted .0 ≤ 16
+key-size-le wanted e =
+    cases (eqb (wanted .0) 8) (λ h. omega (arith, eqb-true (wanted .0) 8 h))
+    (λ h. omega (arith, eqb-true (wanted .0) 16 (simp h at e)))
+
+module _ (text : List ℕ) (wanted : Bytes) where
+  pub size-refused : keySize wanted ≡ false → keyEntry text wanted ≡ refused size
+  unfolding keyEntry
+  size-refused s = simp s
+
+  pub text-refused : keySize wanted ≡ true → fullText text wanted ≡ false → keyEntry text wanted ≡ refused size
+  unfolding keyEntry
+  text-refused s f = simp (s, f)
+
+  pub character-refused : keySize wanted ≡ true → fullText text wanted ≡ true → all hexadecimal text ≡ false → keyEntry text wanted ≡ refused character
+  unfolding keyEntry
+  character-refused s f h = simp (s, f, h)
+
+  pub entered : keySize wanted ≡ true → fullText text wanted ≡ true → all hexadecimal text ≡ true → keyEntry text wanted ≡ done (keyOf text)
+  unfolding keyEntry
+  entered s f h = simp (s, f, h)
+
+  -- a text that is not refused passes all three tests
+  pub passes : 0 ≡ number (keyEntry text wanted) → (keySize wanted ≡ true) × (fullText text wanted ≡ true) × (all hexadecimal text ≡ true)
+  passes e =
+      cases (keySize wanted)
+      (λ s. cases (fullText text wanted)
+      (λ f. cases (all hexadecimal text) (λ h. (s, f, h)) (λ h. absurd (never (rw (character-refused s f h) at e))))
+      (λ f. absurd (never (rw (text-refused s f) at e))))
+      (λ s. absurd (never (rw (size-refused s) at e)))

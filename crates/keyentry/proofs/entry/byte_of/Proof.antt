@@ -1,0 +1,78 @@
+use borrow.Author.Needs.{needs}
+use mathlib.Core.Path.{_≡_, sym, _∙_}
+use Prim.Native.Nat.{_+_, _*_, _<_, _≤_, _^_}
+use native.Mathlib.Omega.{arith}
+use lib.ListN.{length}
+use Rattle.lent.proofs.Laws.{all-at}
+use Rattle.keyentry.specs.Hexadecimal.{hexadecimal}
+use Rattle.keyentry.proofs.Doublings.{told, not-too-large}
+use Rattle.keyentry.proofs.entry.byte_of.Statement.{statement}
+use Rattle.keyentry.proofs.entry.byte_of.Tie as tie
+
+-- the place of the byte's first digit
+first : (c : tie.After-known-told) → c .before .first .given .0 .0 .0 ≡ 2 * c .before .before .before .before .before .args .place .0
+first c =
+    let b = c .before .before .before in
+    told (b .before .before .args .place) (c .before .first .given .0 .0) (omega arith)
+    (sym (c .before .first .given .1) ∙ b .digits-of .ensures)
+
+digits-of-requires : tie.Need-digits-of-requires
+digits-of-requires c κs = search needs
+
+enum-known-first : tie.Need-enum-known-first
+enum-known-first c = search needs
+
+enum-told : tie.Need-enum-told
+enum-told c = search needs
+
+returns : tie.Need-returns
+returns c =
+    let b = c .before .before in
+    absurd (not-too-large (b .before .before .args .place) (omega arith) (sym (c .enum-told .given .1) ∙ b .digits-of .ensures))
+
+shared-slice-read-value-of : tie.Need-shared-slice-read-value-of
+shared-slice-read-value-of c = omega (arith, first (c .before))
+
+value-of-requires : tie.Need-value-of-requires
+value-of-requires c κs =
+    let s = c .before .before .before .before .before .before in
+    all-at hexadecimal (s .args .text .now) _ (s .pre .1) (omega (arith, first (c .before)))
+
+mul-result : tie.Need-mul-result
+mul-result c = search needs
+
+add-value-of : tie.Need-add-value-of
+add-value-of c = record { fits = omega (arith, first (c .before .before)) }
+
+shared-slice-read-value-of-2 : tie.Need-shared-slice-read-value-of-2
+shared-slice-read-value-of-2 c = omega (arith, first (c .before .before .before))
+
+value-of-requires-2 : tie.Need-value-of-requires-2
+value-of-requires-2 c κs =
+    let s = c .before .before .before .before .before .before .before .before in
+    all-at hexadecimal (s .args .text .now) _ (s .pre .1) (omega (arith, first (c .before .before .before)))
+
+add-result : tie.Need-add-result
+add-result c = search needs
+
+returns-2 : tie.Need-returns-2
+returns-2 c =
+    let text = c .before .before .before .before .before .before .before .before .before .args .text .now in
+    rw (← first (c .before .before .before .before), c .before .before .value-of .ensures .0, c .value-of2 .ensures .0)
+
+pub byte-of-spec : {M : Type 1} → statement M
+byte-of-spec =
+    tie.close
+    (tie.spec
+    digits-of-requires
+    enum-known-first
+    enum-told
+    returns
+    shared-slice-read-value-of
+    value-of-requires
+    mul-result
+    add-value-of
+    shared-slice-read-value-of-2
+    value-of-requires-2
+    add-result
+    returns-2)

@@ -1,0 +1,28 @@
+use borrow.Author.Needs.{needs}
+use mathlib.Core.Path.{sym, _∙_}
+use Rattle.keyentry.specs.Hexadecimal.{hexadecimal}
+use Rattle.keyentry.proofs.hexadecimal.is_hexadecimal.Statement.{statement}
+use Rattle.keyentry.proofs.hexadecimal.is_hexadecimal.Tie as tie
+
+between-requires : tie.Need-between-requires
+between-requires c κs = search needs
+
+returns : tie.Need-returns
+unfolding hexadecimal
+returns c = simp (sym (c .before .between .ensures) ∙ c .if1 .taken)
+
+capitalized-requires : tie.Need-capitalized-requires
+capitalized-requires c κs = search needs
+
+between-requires-2 : tie.Need-between-requires-2
+between-requires-2 c κs = search needs
+
+returns-2 : tie.Need-returns-2
+unfolding hexadecimal
+returns-2 c =
+    simp (sym (c .before .before .before .between .ensures) ∙ c .before .before .if1 .left, ← c .before .capitalized .ensures)
+    (c .between2 .ensures)
+
+pub is-hexadecimal-spec : {M : Type 1} → statement M
+is-hexadecimal-spec =
+    tie.close (tie.spec between-requires returns capitalized-requires between-requires-2 returns-2)

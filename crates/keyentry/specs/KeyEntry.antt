@@ -1,0 +1,33 @@
+-- Key entry: the key of a text and a wanted size (01, Digits and bytes).
+use mathlib.Core.Bool.{Bool}
+use mathlib.Core.List.{List, [], _∷_}
+use Prim.Native.Nat.{ℕ, _+_, _*_}
+use lib.Dec.{eqb}
+use lib.ListN.{length}
+use Rattle.lent.specs.Choice.{either, all}
+use Rattle.lent.specs.Numbers.{size, character}
+use Rattle.lent.specs.Result.{Result, done, require}
+use Rattle.keyentry.specs.Hexadecimal.{hexadecimal, valueOf}
+use Rattle.keyentry.specs.declared.units.Bytes.{Bytes}
+
+-- the bytes of a text: a byte for each two digits
+unfoldable pub keyOf : List ℕ → List ℕ
+keyOf (high ∷ low ∷ s) = (valueOf high * 16 + valueOf low) ∷ keyOf s
+keyOf (high ∷ []) = []
+keyOf [] = []
+
+-- a key has 8 or 16 bytes
+abbrev pub keySize : Bytes → Bool
+keySize wanted = either (eqb (wanted .0) 8) (eqb (wanted .0) 16)
+
+-- the text has two digits for each byte wanted
+abbrev pub fullText : List ℕ → Bytes → Bool
+fullText text wanted = eqb (length text) (2 * wanted .0)
+
+-- the key, or the refusal
+unfoldable pub keyEntry : List ℕ → Bytes → Result (List ℕ)
+keyEntry text wanted =
+    require (keySize wanted) size
+    (require (fullText text wanted) size
+    (require (all hexadecimal text) character
+    (done (keyOf text))))

@@ -1,0 +1,60 @@
+// Hexadecimal digits, with letters of either case.
+ghost use mathlib.Core.Path.{_≡_};
+ghost use mathlib.Core.Bool.{true};
+ghost use mathlib.Core.List.{[], _∷_};
+ghost use Prim.Native.Nat.{_<_};
+ghost use Rattle.lent.specs.Choice.{all};
+ghost use Rattle.keyentry.specs.Hexadecimal.{hexadecimal, valueOf, digitOf, textOf};
+
+// Whether a character is a hexadecimal digit.
+fn is_hexadecimal(x: u8) -> bool
+    ensures { λ r. ⌜ r ≡ hexadecimal x ⌝ }
+{
+    if lent::between(48, 57, x) {
+        return true;
+    }
+    lent::between(65, 70, lent::capitalized(x))
+}
+
+// The value of a hexadecimal digit.
+pub(crate) fn value_of(x: u8) -> u8
+    requires { ⌜ hexadecimal x ≡ true ⌝ }
+    ensures { λ r. ⌜ (r ≡ valueOf x) × (r < 16) ⌝ }
+{
+    if lent::between(48, 57, x) {
+        return x - 48;
+    }
+    lent::capitalized(x) - 55
+}
+
+// Whether every character is a hexadecimal digit.
+pub(crate) fn all_hexadecimal(text: &[u8]) -> bool
+    ensures { λ r. ⌜ r ≡ all hexadecimal (now (text .entry)) ⌝ }
+{
+    let mut i: usize = 0;
+    while i < text.len() {
+        if !is_hexadecimal(text[i]) {
+            return false;
+        }
+        i += 1;
+    }
+    true
+}
+
+// The digit of a value below 16, in capitals.
+fn digit_of(n: u8) -> u8
+    requires { ⌜ n < 16 ⌝ }
+    ensures { λ r. ⌜ r ≡ digitOf 65 n ⌝ }
+{
+    if n < 10 {
+        return 48 + n;
+    }
+    65 + (n - 10)
+}
+
+// The hexadecimal text of a byte, in capitals.
+pub fn byte_text(b: u8) -> [u8; 2]
+    ensures { λ r. ⌜ r ≡ textOf 65 (b ∷ []) ⌝ }
+{
+    [digit_of(b / 16), digit_of(b % 16)]
+}

@@ -1,0 +1,10 @@
+// Keys entered as hexadecimal text, and the hexadecimal text of bytes.
+mod entry;
+mod hexadecimal;
+mod units;
+
+pub use entry::Entered;
+pub use entry::key_entry;
+pub use hexadecimal::byte_text;
+pub use units::Bytes;
+pub use units::Digits;

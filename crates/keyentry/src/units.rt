@@ -1,0 +1,26 @@
+// A count of hexadecimal digits and a count of bytes, kept apart by their types (01, Digits and bytes).
+ghost use mathlib.Core.Path.{_≡_};
+ghost use Rattle.keyentry.specs.Doubled.{doubled};
+
+// A number of hexadecimal digits, or a place among them.
+pub struct Digits(pub usize);
+
+// A number of bytes, or a place among them.
+pub struct Bytes(pub usize);
+
+// The digits that a number of bytes takes, or that they are too many to count.
+pub enum Doubling {
+    Fits(Digits),
+    TooLarge,
+}
+
+// Doubles bytes into digits.
+pub(crate) fn digits_of(size: Bytes) -> Doubling
+    ensures { λ r. ⌜ r ≡ doubled size ⌝ }
+{
+    let bytes = size.0;
+    if 9223372036854775807 < bytes {
+        return Doubling::TooLarge;
+    }
+    Doubling::Fits(Digits(2 * bytes))
+}

@@ -1,0 +1,64 @@
+use borrow.Author.Needs.{needs}
+use borrow.Author.Tests.{not-true, not-false}
+use mathlib.Core.Path.{_≡_, sym, _∙_}
+use Prim.Native.Nat.{_≤_, _-_}
+use native.Mathlib.Omega.{arith}
+use lib.ListN.{length, drop}
+use Rattle.lent.specs.Choice.{all}
+use Rattle.lent.specs.Characters.{digit}
+use Rattle.lent.proofs.Laws.{all-fails, all-passes, all-ends}
+use Rattle.lent.proofs.characters.all_digits.Statement.{statement}
+use Rattle.lent.proofs.characters.all_digits.Tie as tie
+
+abbrev Inv-loop : tie.InvT-loop
+Inv-loop s i₀ i = (i ≤ length s) × (all digit (drop i s) ≡ all digit s)
+
+abbrev μ-loop : tie.MeasureT-loop
+μ-loop s i₀ i = length s - i
+
+loop-holds : tie.Need-loop-holds Inv-loop μ-loop
+loop-holds c = search needs
+
+shared-slice-read-between : tie.Need-shared-slice-read-between Inv-loop μ-loop
+shared-slice-read-between c = search needs
+
+between-requires : tie.Need-between-requires Inv-loop μ-loop
+between-requires c κs = search needs
+
+returns : tie.Need-returns Inv-loop μ-loop
+returns c =
+    let l = c .before .before .before .before .loop in
+    all-fails digit (c .before .before .before .before .before .before .args .s .now) (l .i) (l .inv .1) (omega arith)
+    (sym (c .before .between .ensures) ∙ not-true _ (c .if1 .taken))
+
+add-i : tie.Need-add-i Inv-loop μ-loop
+add-i c = search needs
+
+loop-less : tie.Need-loop-less Inv-loop μ-loop
+loop-less c = search needs
+
+loop-again : tie.Need-loop-again Inv-loop μ-loop
+loop-again c =
+    let l = c .before .before .before .before .loop in (
+      omega arith,
+      all-passes digit (c .before .before .before .before .before .before .args .s .now) (l .i) (l .inv .1) (omega arith)
+          (sym (c .before .between .ensures) ∙ not-false _ (c .if1 .left)),
+    )
+
+returns-2 : tie.Need-returns-2 Inv-loop μ-loop
+returns-2 c = all-ends digit (c .before .before .before .args .s .now) (c .before .loop .i) (c .before .loop .inv .1) (c .loop-test .left)
+
+pub all-digits-spec : {M : Type 1} → statement M
+all-digits-spec =
+    tie.close
+    (tie.spec
+    Inv-loop
+    μ-loop
+    loop-holds
+    shared-slice-read-between
+    between-requires
+    returns
+    add-i
+    loop-less
+    loop-again
+    returns-2)

@@ -1,0 +1,59 @@
+use borrow.Author.Needs.{needs}
+use mathlib.Core.Path.{_≡_, refl}
+use Prim.Native.Nat.{ℕ, _≤_, _<_, _-_, _*_, _^_}
+use native.Mathlib.Nat.{pow-suc, pow-le-pow-right}
+use native.Mathlib.Numerals.{add-one}
+use native.Mathlib.Omega.{arith}
+use lib.Dec.{lit<}
+use Rattle.lent.specs.Words.{fromBase}
+use Rattle.lent.proofs.words.word_of.Statement.{statement}
+use Rattle.lent.proofs.words.word_of.Tie as tie
+
+abbrev Inv-loop : tie.InvT-loop
+Inv-loop s x₀ i₀ x i = (i ≤ 8) × (x < 256 ^ i) × (x ≡ fromBase 256 i s)
+
+abbrev μ-loop : tie.MeasureT-loop
+μ-loop s x₀ i₀ x i = 8 - i
+
+loop-holds : tie.Need-loop-holds Inv-loop μ-loop
+unfolding fromBase
+loop-holds c = (search needs, search needs, refl)
+
+byte-at-requires : tie.Need-byte-at-requires Inv-loop μ-loop
+byte-at-requires c κs = search needs
+
+-- fewer than eight bytes leave room for one more
+room : {i : ℕ} → i < 8 → 256 ^ i ≤ 256 ^ 7
+room {i} h = let l : i ≤ 7 = omega arith in pow-le-pow-right (lit< tt) l
+
+with-byte-requires : tie.Need-with-byte-requires Inv-loop μ-loop
+with-byte-requires c κs = let h = room {i = c .before .before .loop .i} (omega arith) in omega arith
+
+add-i : tie.Need-add-i Inv-loop μ-loop
+add-i c = search needs
+
+loop-less : tie.Need-loop-less Inv-loop μ-loop
+loop-less c = search needs
+
+loop-again : tie.Need-loop-again Inv-loop μ-loop
+unfolding fromBase
+loop-again c =
+    let l = c .before .before .before .loop in
+    (omega arith, rw (add-one (l .i), pow-suc 256 (l .i)) (omega arith), rw (add-one (l .i)) (cc))
+
+returns : tie.Need-returns Inv-loop μ-loop
+returns c = let e : c .before .loop .i ≡ 8 = omega arith in rw e at (c .before .loop .inv .2)
+
+pub word-of-spec : {M : Type 1} → statement M
+word-of-spec =
+    tie.close
+    (tie.spec
+    Inv-loop
+    μ-loop
+    loop-holds
+    byte-at-requires
+    with-byte-requires
+    add-i
+    loop-less
+    loop-again
+    returns)

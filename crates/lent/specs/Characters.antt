@@ -1,0 +1,24 @@
+-- The characters of a text, as bytes of ASCII.
+use mathlib.Core.Bool.{Bool}
+use Prim.Native.Nat.{ℕ, _-_}
+use Rattle.lent.specs.Choice.{between, pick}
+
+-- 0 to 9
+abbrev pub digit : ℕ → Bool
+digit x = between 48 57 x
+
+-- A to Z
+abbrev pub capital : ℕ → Bool
+capital x = between 65 90 x
+
+-- a to z
+abbrev pub small : ℕ → Bool
+small x = between 97 122 x
+
+-- a small letter's capital; any other character is its own
+unfoldable pub capitalized : ℕ → ℕ
+capitalized x = pick (small x) (x - 32) x
+
+-- 20 to 7E hex
+abbrev pub printable : ℕ → Bool
+printable x = between 32 126 x

@@ -1,0 +1,5 @@
+pub mod Choice
+pub mod Characters
+pub mod Numbers
+pub mod Result
+pub mod Words

@@ -1,0 +1,58 @@
+-- What an entry answers, and what it leaves in the memory lent to it (01, Numbers an operator sees).
+use mathlib.Core.Path.{_≡_}
+use mathlib.Core.Bool.{Bool}
+use mathlib.Core.List.{List, [], _++_}
+use Prim.Native.Nat.{ℕ}
+use lib.Dec.{leb}
+use lib.ListN.{length, drop, replicate}
+use Rattle.lent.specs.Choice.{pick}
+use Rattle.lent.specs.Numbers.{shortBuffer}
+
+-- A value, or the number of the refusal.
+pub data Result (A : Type 0) : Type 0 where
+  done : A → Result A
+  refused : ℕ → Result A
+
+-- The number an operator sees: 0 where done.
+abbrev pub number : {A : Type 0} → Result A → ℕ
+number (done a) = 0
+number (refused n) = n
+
+-- The result where the test holds, else the refusal n.
+abbrev pub require : {A : Type 0} → Bool → ℕ → Result A → Result A
+require test n r = pick test r (refused n)
+
+-- The result of going on with a value; a refusal stays.
+abbrev pub andThen : {A B : Type 0} → Result A → (A → Result B) → Result B
+andThen (done a) f = f a
+andThen (refused n) f = refused n
+
+-- The bytes of a done value; a refusal has none.
+abbrev pub bytes : Result (List ℕ) → List ℕ
+bytes (done b) = b
+bytes (refused n) = []
+
+-- The value of n bytes; a refusal's is zeros.
+abbrev pub fixed : ℕ → Result (List ℕ) → List ℕ
+fixed n (done b) = b
+fixed n (refused k) = replicate n 0
+
+-- A done value that is longer than the room lent for it is refused.
+abbrev pub lend : ℕ → Result (List ℕ) → Result (List ℕ)
+lend room (done b) = require (leb (length b) room) shortBuffer (done b)
+lend room (refused n) = refused n
+
+-- Lent memory afterwards: the value from its start, then the old bytes.
+abbrev pub over : List ℕ → List ℕ → List ℕ
+over value old = value ++ drop (length value) old
+
+-- The promise of an entry that answers a value of n bytes: its number and its value.
+pub record Answered (n : ℕ) (answer : Result (List ℕ)) (num : ℕ) (val : List ℕ) : Type 0 where
+  pub number : num ≡ Rattle.lent.specs.Result.number answer
+  pub value : val ≡ fixed n answer
+
+-- The promise of an entry that writes its value into lent memory: its number, the length written, and the memory afterwards.
+pub record Written (answer : Result (List ℕ)) (before : List ℕ) (num len : ℕ) (after : List ℕ) : Type 0 where
+  pub number : num ≡ Rattle.lent.specs.Result.number (lend (length before) answer)
+  pub value : len ≡ length (bytes (lend (length before) answer))
+  pub memory : after ≡ over (bytes (lend (length before) answer)) before

@@ -1,0 +1,36 @@
+// What the entries share: the numbers of the refusals, their answers, words and characters in lent memory.
+mod answers;
+mod characters;
+mod memory;
+mod numbers;
+mod words;
+
+pub use answers::Block;
+pub use answers::DoubleBlock;
+pub use answers::Length;
+pub use answers::block_of;
+pub use answers::refused_block;
+pub use answers::refused_double_block;
+pub use answers::refused_length;
+pub use characters::all_digits;
+pub use characters::between;
+pub use characters::capitalized;
+pub use memory::lend;
+pub use memory::lend_word;
+pub use numbers::CHARACTER;
+pub use numbers::COUNTER;
+pub use numbers::CUT_SHORT;
+pub use numbers::DONE;
+pub use numbers::EMPTY_TEXT;
+pub use numbers::EQUAL_HALVES;
+pub use numbers::EXHAUSTED;
+pub use numbers::FIELD_FORM;
+pub use numbers::FIELD_ORDER;
+pub use numbers::MESSAGE_TYPE;
+pub use numbers::NO_SUCH_PIN;
+pub use numbers::RECORD;
+pub use numbers::SHORT_BUFFER;
+pub use numbers::SIZE;
+pub use words::byte_at;
+pub use words::bytes_of;
+pub use words::word_of;

@@ -1,0 +1,59 @@
+// Words and their bytes, the highest first.
+ghost use mathlib.Core.Path.{_≡_};
+ghost use Prim.Native.Nat.{_+_, _*_, _%_, _^_, _<_, _≤_};
+ghost use lib.ListN.{getD};
+ghost use Rattle.lent.specs.Words.{word, wordBytes};
+
+// The byte at i; past the end, 0.
+pub fn byte_at(s: &[u8], i: usize) -> u8
+    ensures { λ r. ⌜ r ≡ getD (now (s .entry)) i 0 ⌝ }
+{
+    if i < s.len() {
+        return s[i];
+    }
+    0
+}
+
+// The number with one more byte behind it.
+fn with_byte(x: u64, b: u8) -> u64
+    requires { ⌜ x < 2 ^ 56 ⌝ }
+    ensures { λ r. ⌜ (r ≡ x * 256 + b) × (r ≤ x * 256 + 255) ⌝ }
+{
+    x * 256 + (b as u64)
+}
+
+// The word of the first eight bytes of s; past the end stand zeros.
+pub fn word_of(s: &[u8]) -> u64
+    ensures { λ r. ⌜ r ≡ word (now (s .entry)) ⌝ }
+{
+    let mut x: u64 = 0;
+    let mut i: usize = 0;
+    while i < 8 {
+        x = with_byte(x, byte_at(s, i));
+        i += 1;
+    }
+    x
+}
+
+// The lowest byte of x.
+fn low_byte(x: u64) -> u8
+    ensures { λ r. ⌜ r ≡ x % 256 ⌝ }
+{
+    (x % 256) as u8
+}
+
+// The eight bytes of a word.
+pub fn bytes_of(x: u64) -> [u8; 8]
+    ensures { λ r. ⌜ r ≡ wordBytes x ⌝ }
+{
+    [
+        low_byte(x >> 56),
+        low_byte(x >> 48),
+        low_byte(x >> 40),
+        low_byte(x >> 32),
+        low_byte(x >> 24),
+        low_byte(x >> 16),
+        low_byte(x >> 8),
+        low_byte(x),
+    ]
+}
