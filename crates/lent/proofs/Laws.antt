@@ -1,21 +1,25 @@
--- Laws on choices, tests, lists and answers that several crates cite.
+-- Laws on choices, tests and lists that several crates cite.
 use borrow.Author.Tests.{leb-true}
-use mathlib.Core.Path.{_≡_, refl, sym, ap}
+use mathlib.Core.Path.{_≡_, refl}
 use mathlib.Core.Bool.{Bool, true, false}
 use mathlib.Core.List.{List, [], _∷_}
 use Prim.Native.Nat.{ℕ, zero, suc, _+_, _<_, _≤_}
 use native.Mathlib.Nat.{add-zero, zero-add, add-suc, suc-add, not-suc-le-zero, le-of-suc-le-suc}
 use native.Mathlib.Numerals.{add-one}
+use native.Mathlib.Omega.{arith}
 use lib.Dec.{leb}
 use lib.ListN.{length, getD, drop, drop-of-length-le}
 use lib.Seq.{drop-cons}
 use Rattle.lent.specs.Choice.{both, between, all}
-use Rattle.lent.specs.Result.{Result, done, refused, number, Written}
 
 -- by cases on a test, whose answer each case knows
 pub cases : {C : Type 0} (b : Bool) → (b ≡ true → C) → (b ≡ false → C) → C
 cases true t f = t refl
 cases false t f = f refl
+
+-- from 0 and 1 being the same follows anything
+pub never : {C : Type 0} → _≡_ {A = ℕ} 0 1 → C
+never e = absurd (omega arith)
 
 -- two tests that both hold
 pub both-true : (a b : Bool) → both a b ≡ true → (a ≡ true) × (b ≡ true)
@@ -64,14 +68,3 @@ holds-at p k (suc n) e (suc j) h =
 -- a test that was computed for every number below n holds of each
 pub holds-below : (p : ℕ → Bool) (n : ℕ) → holdsFrom p 0 n ≡ true → (j : ℕ) → j < n → p j ≡ true
 holds-below p n e j h = rw zero-add at (holds-at p 0 n e j h)
-
--- an answer whose number is not 0 is that refusal
-pub refused-as : {A : Type 0} (answer : Result A) {n : ℕ} → n ≡ number answer → (n ≡ 0 → ⊥) → answer ≡ refused n
-refused-as (done a) e h = absurd (h e)
-refused-as (refused k) e h = ap refused (sym e)
-
--- a refusal leaves no length, and lent memory as it was
-pub refused-written : {answer : Result (List ℕ)} {before : List ℕ} {num len : ℕ} (n : ℕ)
-    → answer ≡ refused n → num ≡ n → len ≡ 0 → Written answer before num len before
-refused-written {before = before} n e en el =
-    rw (e, en, el) (record { number = refl; value = refl; memory = refl })

@@ -1,2 +1,3 @@
 pub mod Laws
 pub mod Bases
+pub mod Results

@@ -7,7 +7,7 @@ use native.Mathlib.Omega.{arith}
 use lib.Seq.{length-take-le}
 use Rattle.lent.specs.Choice.{all}
 use Rattle.lent.specs.Result.{done}
-use Rattle.lent.proofs.Laws.{refused-as, refused-written}
+use Rattle.lent.proofs.Results.{refused-as, refused-written}
 use Rattle.keyentry.specs.Hexadecimal.{hexadecimal}
 use Rattle.keyentry.specs.KeyEntry.{keySize, fullText, keyEntry}
 use Rattle.keyentry.proofs.Sizes.{key-size-le, passes, entered}

@@ -1,0 +1,85 @@
+use borrow.Author.Needs.{needs}
+use mathlib.Core.Path.{_≡_, refl, ap, sym, _∙_}
+use Prim.Native.Nat.{ℕ, _≤_, _-_, _*_, _+_, _/_}
+use native.Mathlib.Numerals.{add-one}
+use native.Mathlib.Omega.{arith}
+use lib.Bits.{bitXor}
+use lib.ListN.{length, drop, length-drop}
+use lib.Seq.{take-all}
+use Rattle.cipher.proofs.Laws.{encrypted-with}
+use Rattle.chaining.specs.Chain.{blocks, chainedTo, chained}
+use Rattle.chaining.proofs.chained.Statement.{statement}
+use Rattle.chaining.proofs.chained.Tie as tie
+
+abbrev Inv-loop : tie.InvT-loop
+Inv-loop key s keys blocks h₀ i₀ h i = (i ≤ blocks) × (h ≡ chainedTo key s i)
+
+abbrev μ-loop : tie.MeasureT-loop
+μ-loop key s keys blocks h₀ i₀ h i = blocks - i
+
+schedule-requires : tie.Need-schedule-requires Inv-loop μ-loop
+schedule-requires c κs = search needs
+
+add-blocks : tie.Need-add-blocks Inv-loop μ-loop
+add-blocks c = search needs
+
+loop-holds : tie.Need-loop-holds Inv-loop μ-loop
+unfolding chainedTo
+loop-holds c = (search needs, refl)
+
+mul-at : tie.Need-mul-at Inv-loop μ-loop
+mul-at c = search needs
+
+sub-word-of : tie.Need-sub-word-of Inv-loop μ-loop
+sub-word-of c = search needs
+
+part-word-of-start : tie.Need-part-word-of-start Inv-loop μ-loop
+part-word-of-start c = search needs
+
+part-word-of-end : tie.Need-part-word-of-end Inv-loop μ-loop
+part-word-of-end c = search needs
+
+word-of-requires : tie.Need-word-of-requires Inv-loop μ-loop
+word-of-requires c κs = search needs
+
+encrypt-with-requires : tie.Need-encrypt-with-requires Inv-loop μ-loop
+encrypt-with-requires c κs = search needs
+
+add-i : tie.Need-add-i Inv-loop μ-loop
+add-i c = search needs
+
+loop-less : tie.Need-loop-less Inv-loop μ-loop
+loop-less c = search needs
+
+loop-again : tie.Need-loop-again Inv-loop μ-loop
+unfolding chainedTo
+loop-again c =
+    let l = c .before .before .before .before .loop in
+    let s = c .before .before .before .before .before .before .before .args .s .now in
+    let at = 8 * l .i in
+    let rest = take-all (length s - at) (drop at s) (simp length-drop (omega arith)) in
+    (omega arith, rw (add-one (l .i), c .encrypt-with .ensures, c .before .before .before .before .before .schedule .ensures, encrypted-with, l .inv .1, c .before .word-of .ensures, rest))
+
+returns : tie.Need-returns Inv-loop μ-loop
+unfolding chained blocks
+returns c = let e : c .before .loop .i ≡ (length (c .before .before .before .before .args .s .now) + 7) / 8 = omega arith in rw e at (c .before .loop .inv .1)
+
+pub chained-spec : {M : Type 1} → statement M
+chained-spec =
+    tie.close
+    (tie.spec
+    Inv-loop
+    μ-loop
+    schedule-requires
+    add-blocks
+    loop-holds
+    mul-at
+    sub-word-of
+    part-word-of-start
+    part-word-of-end
+    word-of-requires
+    encrypt-with-requires
+    add-i
+    loop-less
+    loop-again
+    returns)

@@ -1,0 +1,114 @@
+-- Laws on cleaned texts that other crates cite.
+use borrow.Author.Tests.{le-leb, lt-leb, leb-true}
+use mathlib.Core.Path.{_≡_, refl, sym, _∙_}
+use mathlib.Core.Bool.{true}
+use mathlib.Core.List.{List, [], _∷_, _++_}
+use Prim.Native.Nat.{ℕ, _+_, _-_, _<_, _≤_}
+use native.Mathlib.Omega.{arith}
+use lib.Dec.{leb, eqb, lit<}
+use lib.ListN.{length, length-append, length-replicate}
+use Rattle.lent.specs.Characters.{digit, small, capitalized}
+use Rattle.lent.specs.Numbers.{size}
+use Rattle.lent.specs.Result.{done, lend}
+use Rattle.lent.proofs.Laws.{cases, between-true}
+use Rattle.lent.proofs.Results.{Numbered, done-numbered, require-numbered}
+use Rattle.cleaning.specs.Cleaning.{kept, cleaned, cleanText}
+use Rattle.cleaning.proofs.Pass.{pass, cleaned-pass, pass-kept}
+
+capitalized-again : (x : ℕ) → capitalized (capitalized x) ≡ capitalized x
+unfolding capitalized
+capitalized-again x =
+    cases (small x)
+    (λ t. let h = between-true 97 122 x t in simp (t, lt-leb 97 (x - 32) (omega arith)))
+    (λ f. simp f)
+
+mutual
+  unfolding pass capitalized
+
+  again : (s : List ℕ) → pass 1 0 (pass 1 0 s) ≡ pass 1 0 s
+  again [] = refl
+  again (x ∷ s) =
+      cases (eqb (capitalized x) 32) (λ e. simp e (again-owed s))
+      (λ n.
+      cases (kept (capitalized x)) (λ k. simp (n, k, capitalized-again x, again s)) (λ k. simp (n, k) (again s)))
+
+  again-owed : (s : List ℕ) → pass 1 0 (pass 1 1 s) ≡ pass 1 1 s
+  again-owed [] = refl
+  again-owed (x ∷ s) =
+      cases (eqb (capitalized x) 32) (λ e. simp e (again-owed s))
+      (λ n.
+      cases (kept (capitalized x)) (λ k. simp (n, k, capitalized-again x, again s)) (λ k. simp (n, k) (again-owed s)))
+
+again-start : (s : List ℕ) → pass 0 0 (pass 0 0 s) ≡ pass 0 0 s
+unfolding pass
+again-start [] = refl
+again-start (x ∷ s) =
+    cases (eqb (capitalized x) 32) (λ e. simp e (again-start s))
+    (λ n.
+    cases (kept (capitalized x)) (λ k. simp (n, k, capitalized-again x, again s)) (λ k. simp (n, k) (again-start s)))
+
+-- cleaning a cleaned text changes nothing
+pub cleaned-again : (s : List ℕ) → cleaned (cleaned s) ≡ cleaned s
+cleaned-again s = simp cleaned-pass (again-start s)
+
+pass-short : (s : List ℕ) (started owed : ℕ) → started ≤ 1 → length (pass started owed s) ≤ owed + length s
+unfolding pass
+pass-short [] started owed h = omega arith
+pass-short (x ∷ s) started owed h =
+    cases (eqb (capitalized x) 32) (λ e. simp e (omega (arith, pass-short s started started h)))
+    (λ n.
+    cases (kept (capitalized x))
+    (λ k. simp (n, k, length-append, length-replicate) (omega (arith, pass-short s 1 0 (omega arith))))
+    (λ k. simp (n, k) (omega (arith, pass-short s started owed h))))
+
+-- a cleaned text is at most as long as the text
+pub cleaned-short : (s : List ℕ) → length (cleaned s) ≤ length s
+cleaned-short s = simp cleaned-pass (omega (arith, pass-short s 0 0 (omega arith)))
+
+-- a space at the start changes nothing
+pub cleaned-space : (s : List ℕ) → cleaned (32 ∷ s) ≡ cleaned s
+unfolding pass capitalized
+cleaned-space s = cleaned-pass (32 ∷ s) ∙ sym (cleaned-pass s)
+
+module _ (x : ℕ) (s : List ℕ) (no-space : capitalized x ≡ 32 → ⊥) (stays : kept (capitalized x) ≡ true) where
+  pass-some : (p : List ℕ) (started owed : ℕ) → 0 < length (pass started owed (p ++ x ∷ s))
+  unfolding pass
+  pass-some [] started owed = rw (pass-kept x s started owed no-space stays, length-append) (omega arith)
+  pass-some (y ∷ p) started owed =
+      cases (eqb (capitalized y) 32) (λ e. simp e (pass-some p started started))
+      (λ n.
+      cases (kept (capitalized y))
+      (λ k. simp (n, k, length-append) (omega arith))
+      (λ k. simp (n, k) (pass-some p started owed)))
+
+  -- a text with a character that stays and is no space has a cleaned text that is not empty
+  pub cleaned-some : (p : List ℕ) → 0 < length (cleaned (p ++ x ∷ s))
+  cleaned-some p = rw cleaned-pass (pass-some p 0 0)
+
+-- so has a text with a digit
+pub cleaned-digit : (x : ℕ) (s p : List ℕ) → digit x ≡ true → 0 < length (cleaned (p ++ x ∷ s))
+unfolding capitalized kept
+cleaned-digit x s p d =
+    let h = between-true 48 57 x d in
+    let same : capitalized x ≡ x = simp (lt-leb 97 x (omega arith)) in
+    cleaned-some x s (λ z. omega arith) (rw same (simp (lt-leb 65 x (omega arith), d))) p
+
+-- a text of at most 1,024 bytes is cleaned
+pub clean-done : (s : List ℕ) → length s ≤ 1024 → cleanText s ≡ done (cleaned s)
+unfolding cleanText
+clean-done s h = simp (le-leb _ _ h)
+
+-- every cleaned text has room in 1,024 bytes
+pub clean-fits : (s : List ℕ) → lend 1024 (cleanText s) ≡ cleanText s
+unfolding cleanText
+clean-fits s =
+    cases (leb (length s) 1024)
+    (λ t.
+    let h : length s ≤ 1024 = leb-true _ _ t in
+    simp (t, le-leb (length (cleaned s)) 1024 (omega (arith, cleaned-short s))))
+    (λ f. simp f)
+
+-- no refusal of a text has the number 0
+pub clean-numbered : (s : List ℕ) → Numbered (cleanText s)
+unfolding cleanText
+clean-numbered s = require-numbered (leb (length s) 1024) size (lit< tt) (done-numbered (cleaned s))

@@ -1,0 +1,3 @@
+mod Example
+mod Pass
+pub mod Laws

@@ -1,0 +1,50 @@
+-- `append_field` meets its contract.
+use borrow.Author.Needs.{needs}
+use native.Mathlib.Omega.{arith}
+use Rattle.message.specs.Gathered.{spacedField}
+use Rattle.message.proofs.Appending.{nothing, both-appended}
+use Rattle.message.proofs.text.append_field.Statement.{statement}
+use Rattle.message.proofs.text.append_field.Tie as tie
+
+enum-known-rule : tie.Need-enum-known-rule
+enum-known-rule c = search needs
+
+enum-told : tie.Need-enum-told
+enum-told c = search needs
+
+returns : tie.Need-returns
+unfolding spacedField
+returns c = rw (c .enum-told .given .1) nothing
+
+slice-aggregate-append : tie.Need-slice-aggregate-append
+slice-aggregate-append c = search needs
+
+append-requires : tie.Need-append-requires
+unfolding spacedField
+append-requires c κs = omega (arith, rw (c .before .before .before .rule .given .1) at (c .before .before .before .before .before .before .before .pre))
+
+append-entry-requires : tie.Need-append-entry-requires
+unfolding spacedField
+append-entry-requires c κs =
+    omega (arith, rw (c .before .before .before .before .before .before .before .rule .given .1) at (c .before .before .before .before .before .before .before .before .before .before .before .pre), c .before .before .before .append .ensures .end)
+
+same-length : tie.Need-same-length
+same-length c = search needs
+
+returns-2 : tie.Need-returns-2
+unfolding spacedField
+returns-2 c =
+    rw (c .before .before .before .before .before .before .before .before .before .before .rule .given .1) (both-appended (c .before .before .before .before .before .before .append .ensures) (c .before .before .append-entry .ensures))
+
+pub append-field-spec : {M : Type 1} → statement M
+append-field-spec =
+    tie.close
+    (tie.spec
+    enum-known-rule
+    enum-told
+    returns
+    slice-aggregate-append
+    append-requires
+    append-entry-requires
+    same-length
+    returns-2)

@@ -1,0 +1,66 @@
+-- `message_text` meets its contract.
+use borrow.Author.Needs.{needs}
+use borrow.Author.Tests.{ne-eqb}
+use mathlib.Core.Path.{_≡_, sym}
+use Prim.Native.Nat.{_≤_}
+use native.Mathlib.Omega.{arith}
+use lib.ListN.{length, take}
+use lib.Seq.{length-take-le}
+use Rattle.lent.specs.Result.{done, refused}
+use Rattle.lent.proofs.Results.{refused-written}
+use Rattle.cleaning.proofs.Laws.{clean-done}
+use Rattle.message.specs.Gathered.{gathered}
+use Rattle.message.proofs.Joining.{text-gathered}
+use Rattle.message.proofs.text.message_text.Statement.{statement}
+use Rattle.message.proofs.text.message_text.Tie as tie
+
+slice-aggregate-gather : tie.Need-slice-aggregate-gather
+slice-aggregate-gather c = search needs
+
+gather-requires : tie.Need-gather-requires
+gather-requires c κs = search needs
+
+refused-length-requires : tie.Need-refused-length-requires
+refused-length-requires c κs = search needs
+
+returns : tie.Need-returns
+returns c =
+    let m = c .before .before .before .before .before .before .before .args .message .now in
+    let g = c .before .before .before .gather in
+    let e : gathered m ≡ refused (g .result .number) = simp (ne-eqb _ _ (c .before .if1 .taken)) at (g .ensures .value) in
+    refused-written (g .result .number) (rw (text-gathered m, e)) (cc) (cc)
+
+array-share-prefix-raw : tie.Need-array-share-prefix-raw
+array-share-prefix-raw c = search needs
+
+slice-aggregate-clean : tie.Need-slice-aggregate-clean
+slice-aggregate-clean c = let g = c .before .before .before .gather in sym (length-take-le (g .result .length) (g .last .1 .0) (omega arith))
+
+clean-requires : tie.Need-clean-requires
+clean-requires c κs = search needs
+
+same-length : tie.Need-same-length
+same-length c = search needs
+
+returns-2 : tie.Need-returns-2
+returns-2 c =
+    let m = c .before .before .before .before .before .before .before .before .before .before .before .args .message .now in
+    let g = c .before .before .before .before .before .before .before .gather in
+    let v = take (g .result .length) (g .last .1 .0) in
+    let short : length v ≤ 1024 = rw (length-take-le (g .result .length) (g .last .1 .0) (omega arith)) (omega arith) in
+    let e : gathered m ≡ done v = simp (c .before .before .before .before .before .if1 .left) at (g .ensures .value) in
+    rw (text-gathered m, e, ← clean-done v short) (c .before .before .clean .ensures)
+
+pub message-text-spec : {M : Type 1} → statement M
+message-text-spec =
+    tie.close
+    (tie.spec
+    slice-aggregate-gather
+    gather-requires
+    refused-length-requires
+    returns
+    array-share-prefix-raw
+    slice-aggregate-clean
+    clean-requires
+    same-length
+    returns-2)

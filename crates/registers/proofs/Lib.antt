@@ -1,0 +1,11 @@
+pub mod Bits
+pub mod Order
+pub mod Total
+pub mod Keys
+pub mod Filling
+pub mod Places
+pub mod Validity
+pub mod Spent
+pub mod Calls
+pub mod Theorem
+pub mod Laws

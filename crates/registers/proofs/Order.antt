@@ -1,0 +1,151 @@
+-- The permitted counters in order: their count, the next one, the last one, the n-th smallest.
+use mathlib.Core.Path.{_≡_, refl, sym, ap, _∙_, subst}
+use mathlib.Core.Logic.{if-pos, if-neg, by-cases}
+use Prim.Native.Nat.{ℕ, zero, suc, _+_, _-_, _*_, _/_, _^_, _≤_, _<_}
+use native.Mathlib.Nat.{not-suc-le-zero, zero-lt-suc, add-zero, add-mul, le-refl}
+use native.Mathlib.Decide.{decLe, decLt, le-ind}
+use native.Mathlib.Numerals.{add-one}
+use native.Mathlib.Omega.{arith}
+use borrow.Author.Tests.{lt-ltb, le-ltb}
+use lib.Dec.{lit<}
+use lib.Pow.{pow-pos, pow-mono, shr-lt, shl-shr}
+use lib.Count.{ones, ones-cat, ones-ones, ones-le}
+use Rattle.registers.specs.Counters.{Permitted, permitted?, permittedTo, Nth, SmallestAbove, lastCounter, lowestPlace, nextAfter, nextCounter}
+use Rattle.registers.proofs.Bits.{Lowest, lowest, place-lt, ones-pos, ones-odd, ones-shl, ones-suc, twice}
+
+-- ---- the count
+
+-- a permitted counter is counted, any other number is not
+pub count-hit : (c : ℕ) → Permitted (suc c) → permittedTo (suc c) ≡ suc (permittedTo c)
+unfolding permittedTo
+count-hit c ok = ap (λ (x : ℕ). permittedTo c + x) (if-pos (permitted? (suc c)) ok 1 0) ∙ add-one (permittedTo c)
+
+pub count-miss : (c : ℕ) → ¬ Permitted (suc c) → permittedTo (suc c) ≡ permittedTo c
+unfolding permittedTo
+count-miss c bad = ap (λ (x : ℕ). permittedTo c + x) (if-neg (permitted? (suc c)) bad 1 0) ∙ add-zero (permittedTo c)
+
+-- where none is permitted after a and up to b, the count stays
+pub count-gap : (a b : ℕ) → a ≤ b → ((x : ℕ) → a < x → x ≤ b → ¬ Permitted x) → permittedTo b ≡ permittedTo a
+count-gap a = le-ind (λ (b : ℕ). ((x : ℕ) → a < x → x ≤ b → ¬ Permitted x) → permittedTo b ≡ permittedTo a) (λ none. refl)
+    (λ b h ih none. count-miss b (none (suc b) (omega arith) (le-refl (suc b))) ∙ ih (λ x p q. none x p (omega arith)))
+
+-- the count never falls
+pub count-mono : (a b : ℕ) → a ≤ b → permittedTo a ≤ permittedTo b
+unfolding permittedTo
+count-mono a = le-ind (λ (b : ℕ). permittedTo a ≤ permittedTo b) (le-refl (permittedTo a)) (λ b h ih. omega arith)
+
+-- any number below a permitted counter has a lower count
+pub count-lt : (a b : ℕ) → a < b → Permitted b → permittedTo a < permittedTo b
+count-lt a zero h ok = absurd (not-suc-le-zero h)
+count-lt a (suc b) h ok = omega (arith, count-hit b ok, count-mono a b (omega arith))
+
+-- ---- the n-th smallest
+
+-- there is at most one n-th smallest
+pub nth-unique : (n c d : ℕ) → Nth n c → Nth n d → c ≡ d
+nth-unique n c d x y =
+    by-cases (decLt c d) (λ h. absurd (omega (arith, count-lt c d h (y .permitted))))
+    (λ h. by-cases (decLt d c) (λ q. absurd (omega (arith, count-lt d c q (x .permitted)))) (λ q. omega arith))
+
+-- the count grows by ones, so it comes by each number
+pub nth-below : (x n : ℕ) → 1 ≤ n → n ≤ permittedTo x → (c : ℕ) × Nth n c
+unfolding permittedTo
+nth-below zero n p q = absurd (omega arith)
+nth-below (suc x) n p q =
+    by-cases (decLe n (permittedTo x)) (λ h. nth-below x n p h)
+    (λ h.
+    by-cases (permitted? (suc x)) (λ ok. (suc x, record { permitted = ok; number = omega (arith, count-hit x ok) }))
+    (λ bad. absurd (omega (arith, count-miss x bad))))
+
+-- ---- the last counter
+
+-- it has the ten highest of the 21 bits
+pub last-permitted : Permitted lastCounter
+last-permitted = record { from-one = lit< tt; fits = lit< tt; few = omega (arith, ones-shl (2 ^ 10 - 1) 11, ones-ones 10) }
+
+-- a larger number of 21 bits has all of these and one more
+pub permitted-le : (c : ℕ) → Permitted c → c ≤ lastCounter
+permitted-le c ok = by-cases (decLe c lastCounter) (λ h. h) (λ h. absurd (over (omega arith)))
+  where
+    over : lastCounter < c → ⊥
+    over h =
+        let r = c - lastCounter in
+        let parts : c ≡ (2 ^ 10 - 1) * 2 ^ 11 + r = omega (arith, ok .fits) in
+        let apart = ones-cat 11 (2 ^ 10 - 1) r (omega (arith, ok .fits)) in
+        omega (arith, ok .few, ap ones parts, ones-ones 10, ones-pos r (omega arith))
+
+-- ---- the next counter
+
+-- the rule's two cases
+pub next-few : (c : ℕ) → ones c < 10 → nextAfter c ≡ suc c
+unfolding nextAfter
+next-few c h = rw (lt-ltb (ones c) 10 h) (omega arith)
+
+pub next-full : (c : ℕ) → 10 ≤ ones c → nextAfter c ≡ c + 2 ^ lowestPlace c
+unfolding nextAfter
+next-full c h = rw (le-ltb (ones c) 10 h) (omega arith)
+
+-- at ten one bits
+full-next : (c : ℕ) → Permitted c → c < lastCounter → 10 ≤ ones c → SmallestAbove c (c + 2 ^ lowestPlace c)
+full-next c ok h many = record {
+  permitted = record { from-one = omega (arith, ok .from-one); fits = fits; few = few };
+  above = omega (arith, pow-pos l);
+  none-between = λ x p q. between x p q;
+}
+  where
+    l : ℕ
+    l = lowestPlace c
+
+    low : Lowest c l
+    low = lowest c (ok .from-one) (ok .fits)
+
+    a : ℕ
+    a = low .above
+
+    all : ones (a * 2 + 1) ≡ 10
+    all = omega (arith, ones-shl (a * 2 + 1) l, ap ones (low .shape), ok .few)
+
+    next : c + 2 ^ l ≡ (a + 1) * 2 ^ suc l
+    next = omega (arith, low .shape, twice (a + 1) l, add-mul (a * 2) 1 (2 ^ l), add-mul (a * 2) 2 (2 ^ l))
+
+    few : ones (c + 2 ^ l) ≤ 10
+    few = omega (arith, ap ones next, ones-shl (a + 1) (suc l), ones-suc a, ones-odd a, ap ones (add-one a), all)
+
+    -- were there no room for it, l would be above 11, and the bits of c from l up too few for ten ones
+    fits : c + 2 ^ l < 2 ^ 21
+    fits =
+        by-cases (decLt (c + 2 ^ l) (2 ^ 21)) (λ q. q)
+        (λ q. absurd (by-cases (decLt 11 l) (λ p. short p) (λ p. omega (arith, pow-mono {i = l} {j = 11} (omega arith)))))
+      where
+        short : 11 < l → ⊥
+        short p =
+            let wide : _≡_ {A = ℕ} 21 (21 - l + l) = omega (arith, place-lt c (ok .from-one) (ok .fits)) in
+            let bits : c / 2 ^ l ≡ a * 2 + 1 = ap (λ (x : ℕ). x / 2 ^ l) (low .shape) ∙ shl-shr (a * 2 + 1) l in
+            let narrow : a * 2 + 1 < 2 ^ (21 - l) = omega (arith, shr-lt {n = c} (21 - l) l (subst (λ (x : ℕ). c < 2 ^ x) wide (ok .fits))) in
+            omega (arith, all, ones-le (21 - l) (a * 2 + 1) narrow)
+
+    between : (x : ℕ) → c < x → x < c + 2 ^ l → ¬ Permitted x
+    between x p q bad =
+        let r = x - c in
+        let parts : x ≡ (a * 2 + 1) * 2 ^ l + r = omega (arith, low .shape) in
+        omega (arith, all, bad .few, ap ones parts, ones-cat l (a * 2 + 1) r (omega arith), ones-pos r (omega arith))
+
+-- below the last counter, the rule gives the next permitted one
+pub next-permitted : (c : ℕ) → Permitted c → c < lastCounter → SmallestAbove c (nextAfter c)
+next-permitted c ok h =
+    by-cases (decLt (ones c) 10)
+    (λ few. subst (λ (d : ℕ). SmallestAbove c d) (sym (next-few c few)) (record {
+      permitted = record { from-one = zero-lt-suc c; fits = omega arith; few = omega (arith, ones-suc c) };
+      above = le-refl (suc c);
+      none-between = λ x p q. absurd (omega arith);
+    }))
+    (λ many. subst (λ (d : ℕ). SmallestAbove c d) (sym (next-full c (omega arith))) (full-next c ok h (omega arith)))
+
+-- up to the last counter the next one is the rule's, and after it there is none
+pub next-on : (c : ℕ) → c < lastCounter → nextCounter c ≡ nextAfter c
+unfolding nextCounter
+next-on c h = rw (lt-ltb c lastCounter h) refl
+
+pub next-none : (c : ℕ) → lastCounter ≤ c → nextCounter c ≡ 0
+unfolding nextCounter
+next-none c h = rw (le-ltb c lastCounter h) refl

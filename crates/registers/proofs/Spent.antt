@@ -1,0 +1,189 @@
+-- One key given out: what the registers hold afterwards.
+use mathlib.Core.Path.{_≡_, refl, sym, ap, _∙_}
+use mathlib.Core.Logic.{inl, inr, by-cases}
+use mathlib.Core.Bool.{true, false}
+use mathlib.Core.List.{List}
+use Prim.Native.Nat.{ℕ, _-_, _≤_, _<_}
+use native.Mathlib.Decide.{decLt}
+use native.Mathlib.Omega.{arith}
+use borrow.Author.Tests.{lt-ltb, le-ltb, ne-eqb}
+use lib.ListN.{length, getD, length-set, length-replicate, getD-replicate}
+use lib.Seq.{getD-set-same, getD-set-other}
+use lib.Count.{ones}
+use Rattle.registers.specs.Counters.{bit, Permitted, lastCounter, lowestPlace, nextAfter, nextCounter}
+use Rattle.registers.specs.RegisterKey.{registerKey}
+use Rattle.registers.specs.Machine.{Device, State, given, refused, keyAt, stepped, readyKey, emptied, fill, renewed, moved, ended, spent, outcome, after}
+use Rattle.registers.specs.Rule.{label, Running, Stopped, Valid}
+use Rattle.registers.proofs.Bits.{place-lt}
+use Rattle.registers.proofs.Order.{next-permitted, next-on, next-none}
+use Rattle.registers.proofs.Keys.{key-step}
+use Rattle.registers.proofs.Filling.{length-fill, fill-below, fill-above}
+use Rattle.registers.proofs.Places.{Says, is-filled, is-bare, says, mask-bit, Change, new-key, stays-empty, goes-empty, keeps, change}
+use Rattle.registers.proofs.Validity.{running-made, stopped-made}
+
+module _ {K G : Type 0} (device : Device K G) where
+  -- the one-way step, and what an empty register holds
+  abbrev F : K → ℕ → K
+  F = device .oneWay
+
+  abbrev none : K
+  none = device .empty
+
+  -- the registers with those below that of the counter c filled from it
+  abbrev pub refilled-below : List K → ℕ → ℕ → List K
+  refilled-below keys serial c = fill (lowestPlace c) (stepped device (getD keys (lowestPlace c) none) serial c) keys
+
+  -- below ten one bits they are filled, at ten they stay; the counter's register is emptied
+  pub renewed-few : (keys : List K) (serial c : ℕ) → ones c < 10 → renewed device keys serial c ≡ emptied device (lowestPlace c) (refilled-below keys serial c)
+  unfolding renewed
+  renewed-few keys serial c h = rw (lt-ltb (ones c) 10 h) refl
+
+  pub renewed-full : (keys : List K) (serial c : ℕ) → 10 ≤ ones c → renewed device keys serial c ≡ emptied device (lowestPlace c) keys
+  unfolding renewed
+  renewed-full keys serial c h = rw (le-ltb (ones c) 10 h) refl
+
+  module _ (keys : List K) (serial c : ℕ) (ok : Permitted c) (size : length keys ≡ 21) where
+    abbrev l : ℕ
+    l = lowestPlace c
+
+    abbrev low : List K
+    low = refilled-below keys serial c
+
+    abbrev new : ℕ → K
+    new b = getD (renewed device keys serial c) b none
+
+    low-size : length low ≡ 21
+    low-size = length-fill l (stepped device (getD keys l none) serial c) keys ∙ size
+
+    place : l < 21
+    place = place-lt c (ok .from-one) (ok .fits)
+
+    -- below ten one bits, and at ten
+    few-at : ones c < 10 → (b : ℕ) → new b ≡ getD (emptied device l low) b none
+    few-at h b = ap (λ (k : List K). getD k b none) (renewed-few keys serial c h)
+
+    full-at : ¬ (ones c < 10) → (b : ℕ) → new b ≡ getD (emptied device l keys) b none
+    full-at h b = ap (λ (k : List K). getD k b none) (renewed-full keys serial c (omega arith))
+
+    pub length-renewed : length (renewed device keys serial c) ≡ 21
+    length-renewed =
+        by-cases (decLt (ones c) 10) (λ h. ap length (renewed-few keys serial c h) ∙ length-set low l _ ∙ low-size)
+        (λ h. ap length (renewed-full keys serial c (omega arith)) ∙ length-set keys l _ ∙ size)
+
+    -- register by register
+    new-below : (b : ℕ) → b < l → ones c < 10 → new b ≡ stepped device (getD keys l none) serial c b
+    new-below b q h =
+        few-at h b ∙ getD-set-other low l b _ none (λ e. omega arith)
+        ∙ fill-below l (stepped device (getD keys l none) serial c) keys b none q (omega (arith, place))
+
+    kept-below : (b : ℕ) → b < l → 10 ≤ ones c → new b ≡ getD keys b none
+    kept-below b q h = full-at (λ z. omega arith) b ∙ getD-set-other keys l b _ none (λ e. omega arith)
+
+    -- the emptied register is empty
+    emptied-at : (k : List K) → length k ≡ 21 → getD (emptied device l k) l none ≡ none
+    emptied-at k e = getD-set-same k l _ none (omega (arith, place))
+
+    empty-at : (b : ℕ) → b ≡ l → new b ≡ none
+    empty-at b e =
+        ap new e ∙ by-cases (decLt (ones c) 10) (λ h. few-at h l ∙ emptied-at low low-size) (λ h. full-at h l ∙ emptied-at keys size)
+
+    kept-above : (b : ℕ) → l < b → new b ≡ getD keys b none
+    kept-above b q =
+        by-cases (decLt (ones c) 10)
+        (λ h. few-at h b ∙ getD-set-other low l b _ none (λ e. omega arith) ∙ fill-above l (stepped device (getD keys l none) serial c) keys b none (omega arith))
+        (λ h. full-at h b ∙ getD-set-other keys l b _ none (λ e. omega arith))
+
+    -- a register that is empty afterwards is zero if those that were empty are
+    pub renewed-clear : ((b : ℕ) → b < 21 → bit (c - 1) b ≡ 1 → getD keys b none ≡ none)
+        → (b : ℕ) → b < 21 → bit (nextAfter c - 1) b ≡ 1 → new b ≡ none
+    renewed-clear old b h e = go (change c (ok .from-one) (ok .fits) b)
+      where
+        go : Change c b → new b ≡ none
+        go (new-key q few z y m t) = absurd (omega arith)
+        go (stays-empty q many z w) = kept-below b q many ∙ old b h w
+        go (goes-empty q z) = empty-at b q
+        go (keeps q z t) = kept-above b q ∙ old b h (sym z ∙ e)
+
+    module _ (initial : K) where
+      abbrev key : ℕ → K
+      key = registerKey F initial serial
+
+      -- a filled register holds the key of its label if those that were filled do
+      pub renewed-held : getD keys l none ≡ key c → ((b : ℕ) → b < 21 → bit (c - 1) b ≡ 0 → getD keys b none ≡ key (label (c - 1) b))
+          → (b : ℕ) → b < 21 → bit (nextAfter c - 1) b ≡ 0 → new b ≡ key (label (nextAfter c - 1) b)
+      renewed-held mine old b h e = go (change c (ok .from-one) (ok .fits) b)
+        where
+          go : Change c b → new b ≡ key (label (nextAfter c - 1) b)
+          go (new-key q few z y m t) = new-below b q few ∙ ap (λ (k : K). stepped device k serial c b) mine ∙ sym (key-step F initial serial c b y h m) ∙ ap key (sym t)
+          go (stays-empty q many z w) = absurd (omega arith)
+          go (goes-empty q z) = absurd (omega arith)
+          go (keeps q z t) = kept-above b q ∙ old b h (sym z ∙ e) ∙ ap key (sym t)
+
+  -- ---- the state
+
+  -- by the counter that is next
+  pub spent-next : (s : State K) → ¬ (nextCounter (s .counter) ≡ 0) → spent device s ≡ moved device s (nextCounter (s .counter))
+  unfolding spent
+  spent-next s h = rw (ne-eqb (nextCounter (s .counter)) 0 h) refl
+
+  pub spent-none : (s : State K) → nextCounter (s .counter) ≡ 0 → spent device s ≡ ended device s
+  unfolding spent
+  spent-none s e = rw e refl
+
+  module _ (s : State K) (run : Running device s) where
+    abbrev c : ℕ
+    c = s .counter
+
+    abbrev ok : Permitted c
+    ok = run .permitted
+
+    -- the rule by the bits of c - 1
+    was-clear : (b : ℕ) → b < 21 → bit (c - 1) b ≡ 1 → keyAt device s b ≡ none
+    was-clear b h e = go (says c (ok .from-one) (ok .fits) b)
+      where
+        go : Says c b → keyAt device s b ≡ none
+        go (is-filled f z t) = absurd (omega arith)
+        go (is-bare f z) = run .bare b h f .zeros
+
+    -- whatever stands in the filled registers
+    pub moved-running : c < lastCounter → Running device (moved device s (nextAfter c))
+    moved-running h =
+        let d = next-permitted c ok h .permitted in
+        running-made device (moved device s (nextAfter c)) refl d refl
+        (λ b l e. renewed-clear (s .keys) (s .serial) c ok (run .size) was-clear b l (omega (arith, mask-bit (nextAfter c) (d .from-one) (d .fits) b l)))
+        (length-renewed (s .keys) (s .serial) c ok (run .size))
+
+  -- the exhausted state is in order
+  pub ended-stopped : (s : State K) → Stopped device (ended device s)
+  ended-stopped s = stopped-made device (ended device s) refl refl refl (λ b h e. getD-replicate 21 b none none h) (length-replicate 21 none)
+
+  -- by the counter that was given out
+  pub spent-on : (s : State K) → Permitted (s .counter) → s .counter < lastCounter → spent device s ≡ moved device s (nextAfter (s .counter))
+  spent-on s ok h =
+      let e = next-on (s .counter) h in
+      spent-next s (λ z. omega (arith, next-permitted (s .counter) ok h .above)) ∙ ap (moved device s) e
+
+  pub spent-over : (s : State K) → lastCounter ≤ s .counter → spent device s ≡ ended device s
+  spent-over s h = spent-none s (next-none (s .counter) h)
+
+  -- a done call leaves a state that hangs together
+  pub spent-valid : (s : State K) → Running device s → Valid device (spent device s)
+  spent-valid s run =
+      by-cases (decLt (s .counter) lastCounter) (λ h. rw (spent-on s (run .permitted) h) (inl (moved-running s run h)))
+      (λ h. rw (spent-over s (omega arith)) (inr (ended-stopped s)))
+
+  -- ---- a call, by its three cases
+
+  module _ (s : State K) (room : ℕ) where
+    pub call-over : s .exhausted ≡ true → (outcome device s room ≡ refused 12) × (after device s room ≡ s)
+    unfolding outcome after
+    call-over e = (rw e refl, rw e refl)
+
+    pub call-short : s .exhausted ≡ false → room < device .bytes → (outcome device s room ≡ refused 13) × (after device s room ≡ s)
+    unfolding outcome after
+    call-short e h = (rw (e, lt-ltb room (device .bytes) h) refl, rw (e, lt-ltb room (device .bytes) h) refl)
+
+    pub call-full : s .exhausted ≡ false → device .bytes ≤ room
+        → (outcome device s room ≡ given (device .give (readyKey device s) (s .counter))) × (after device s room ≡ spent device s)
+    unfolding outcome after
+    call-full e h = (rw (e, le-ltb room (device .bytes) h) refl, rw (e, le-ltb room (device .bytes) h) refl)

@@ -1,0 +1,5 @@
+pub mod Counters
+pub mod RegisterKey
+pub mod Machine
+pub mod Rule
+pub mod Demand
