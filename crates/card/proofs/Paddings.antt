@@ -1,0 +1,25 @@
+-- Laws on padded data.
+use mathlib.Core.Path.{_≡_, ap, _∙_}
+use mathlib.Core.List.{List, _∷_, _++_}
+use Prim.Native.Nat.{ℕ, suc, _+_, _-_, _*_, _/_, _%_, _≤_}
+use native.Mathlib.Omega.{arith}
+use lib.ListN.{length, take, set, replicate, length-append, length-replicate}
+use lib.Seq.{set-append-seam, take-append-add}
+use Rattle.card.specs.Padding.{padded}
+use Rattle.card.proofs.Lists.{zeros-before}
+
+-- one block more than the data's whole blocks
+pub padded-length : (s : List ℕ) → length (padded s) ≡ 8 * (length s / 8 + 1)
+unfolding padded
+padded-length s = rw (length-append s (128 ∷ replicate (7 - length s % 8) 0), length-replicate) (omega arith)
+
+-- 80 hex stored behind data that stand before zeros
+pub padded-stored : (s : List ℕ) → length s ≤ 255
+    → take (8 * (length s / 8 + 1)) (set (s ++ replicate (256 - length s) 0) (length s) 128) ≡ padded s
+unfolding padded
+padded-stored s h =
+    let n = length s in
+    let room : 256 - n ≡ suc (255 - n) = omega arith in
+    let size : 8 * (n / 8 + 1) ≡ n + suc (7 - n % 8) = omega arith in
+    rw (room, set-append-seam s 0 (replicate (255 - n) 0) 128, size, take-append-add s (128 ∷ replicate (255 - n) 0) (suc (7 - n % 8)),
+      zeros-before (7 - n % 8) (255 - n) (omega arith))

@@ -1,0 +1,73 @@
+use borrow.Author.Needs.{needs}
+use borrow.Author.Tests.{eq-eqb, ne-eqb}
+use Rattle.card.specs.Cryptograms.{arpcWord}
+use Rattle.card.specs.Entries.{arpc}
+use Rattle.card.proofs.Bases.{from-zeros-behind}
+use Rattle.card.proofs.cryptograms.arpc.Statement.{statement}
+use Rattle.card.proofs.cryptograms.arpc.Tie as tie
+
+refused-block-requires : tie.Need-refused-block-requires
+refused-block-requires c κs = search needs
+
+returns : tie.Need-returns
+unfolding arpc
+returns c = simp (ne-eqb _ _ (c .before .if1 .taken)) (c .refused-block .ensures)
+
+refused-block-requires-2 : tie.Need-refused-block-requires-2
+refused-block-requires-2 c κs = search needs
+
+returns-2 : tie.Need-returns-2
+unfolding arpc
+returns-2 c = simp (eq-eqb _ _ (c .before .before .if1 .left), ne-eqb _ _ (c .before .if2 .taken)) (c .refused-block2 .ensures)
+
+refused-block-requires-3 : tie.Need-refused-block-requires-3
+refused-block-requires-3 c κs = search needs
+
+returns-3 : tie.Need-returns-3
+unfolding arpc
+returns-3 c =
+    let b = c .before .before in
+    simp (eq-eqb _ _ (b .before .if1 .left), eq-eqb _ _ (b .if2 .left), ne-eqb _ _ (c .before .if3 .taken)) (c .refused-block3 .ensures)
+
+word-of-requires : tie.Need-word-of-requires
+word-of-requires c κs = search needs
+
+word-of-requires-2 : tie.Need-word-of-requires-2
+word-of-requires-2 c κs = search needs
+
+encipher-requires : tie.Need-encipher-requires
+encipher-requires c κs = search needs
+
+block-of-requires : tie.Need-block-of-requires
+block-of-requires c κs = search needs
+
+returns-4 : tie.Need-returns-4
+unfolding arpc arpcWord
+returns-4 c =
+    let w = c .before .before .before in
+    let b = w .before .before in
+    simp (
+      eq-eqb _ _ (b .before .if1 .left),
+      eq-eqb _ _ (b .if2 .left),
+      eq-eqb _ _ (w .before .if3 .left),
+      from-zeros-behind 256 8,
+      ← w .word-of .ensures,
+      ← c .before .before .word-of2 .ensures,
+      ← c .before .encipher .ensures,
+    ) (c .block-of .ensures)
+
+pub arpc-spec : {M : Type 1} → statement M
+arpc-spec =
+    tie.close
+    (tie.spec
+    refused-block-requires
+    returns
+    refused-block-requires-2
+    returns-2
+    refused-block-requires-3
+    returns-3
+    word-of-requires
+    word-of-requires-2
+    encipher-requires
+    block-of-requires
+    returns-4)

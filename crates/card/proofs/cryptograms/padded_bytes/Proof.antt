@@ -1,0 +1,36 @@
+use borrow.Author.Needs.{needs}
+use borrow.Author.Tests.{le-leb}
+use mathlib.Core.Path.{_≡_}
+use mathlib.Core.List.{List, _++_}
+use Prim.Native.Nat.{ℕ, _-_, _≤_}
+use native.Mathlib.Omega.{arith}
+use lib.ListN.{length, replicate, length-replicate}
+use Rattle.lent.specs.Result.{done, Written}
+use Rattle.card.proofs.Lists.{zeros-after}
+use Rattle.card.proofs.Paddings.{padded-stored}
+use Rattle.card.proofs.cryptograms.padded_bytes.Statement.{statement}
+use Rattle.card.proofs.cryptograms.padded_bytes.Tie as tie
+
+slice-aggregate-lend : tie.Need-slice-aggregate-lend
+slice-aggregate-lend c = search needs
+
+lend-requires : tie.Need-lend-requires
+lend-requires c κs = search needs
+
+array-write-bytes : tie.Need-array-write-bytes
+array-write-bytes c = search needs
+
+-- data lent to 256 zeros stand before what is left of them
+lent-zeros : (s : List ℕ) {v : List ℕ} {m k : ℕ} → length s ≤ 255 → Written (done s) (replicate 256 0) m k v → v ≡ s ++ replicate (256 - length s) 0
+lent-zeros s h w =
+    let fits : length s ≤ 256 = omega arith in
+    simp (length-replicate, le-leb (length s) 256 fits, zeros-after 256 (length s)) at (w .memory)
+
+returns : tie.Need-returns
+returns c =
+    let s = c .before .before .before .before in
+    rw (lent-zeros (s .args .«data» .now) (s .pre) (c .before .lend .ensures)) (padded-stored (s .args .«data» .now) (s .pre))
+
+pub padded-bytes-spec : {M : Type 1} → statement M
+padded-bytes-spec =
+    tie.close (tie.spec slice-aggregate-lend lend-requires array-write-bytes returns)

@@ -1,0 +1,72 @@
+use borrow.Author.Needs.{needs}
+use mathlib.Core.Path.{_≡_, refl}
+use mathlib.Core.List.{map}
+use Prim.Native.Nat.{_-_, _%_, _^_, _≤_}
+use native.Mathlib.Numerals.{add-one}
+use native.Mathlib.Omega.{arith}
+use lib.ListN.{length, getD, List·getD-map}
+use Rattle.lent.specs.Characters.{digit}
+use Rattle.lent.specs.Words.{fromBase}
+use Rattle.lent.proofs.Laws.{between-true, all-at}
+use Rattle.card.specs.Derivation.{digitValue}
+use Rattle.card.proofs.derivation.number_word.Statement.{statement}
+use Rattle.card.proofs.derivation.number_word.Tie as tie
+
+abbrev Inv-loop : tie.InvT-loop
+Inv-loop card x₀ i₀ x i = (i ≤ length card) × (x ≡ fromBase 16 i (map digitValue card) % 2 ^ 64)
+
+abbrev μ-loop : tie.MeasureT-loop
+μ-loop card x₀ i₀ x i = length card - i
+
+loop-holds : tie.Need-loop-holds Inv-loop μ-loop
+unfolding fromBase
+loop-holds c = (search needs, refl)
+
+shared-slice-read-with-half-byte : tie.Need-shared-slice-read-with-half-byte Inv-loop μ-loop
+shared-slice-read-with-half-byte c = search needs
+
+-- the character that is read
+is-digit : (c : tie.After-shared-slice-known2 Inv-loop μ-loop)
+    → let x = getD (c .before .before .before .before .args .card .now) (c .before .before .loop .i) 0 in (48 ≤ x) × (x ≤ 57)
+is-digit c =
+    let s = c .before .before .before .before in
+    between-true 48 57 _ (all-at digit (s .args .card .now) (c .before .before .loop .i) (s .pre) (omega arith))
+
+sub-with-half-byte : tie.Need-sub-with-half-byte Inv-loop μ-loop
+sub-with-half-byte c = omega (arith, is-digit c)
+
+with-half-byte-requires : tie.Need-with-half-byte-requires Inv-loop μ-loop
+with-half-byte-requires c κs = omega (arith, is-digit c)
+
+add-i : tie.Need-add-i Inv-loop μ-loop
+add-i c = search needs
+
+loop-less : tie.Need-loop-less Inv-loop μ-loop
+loop-less c = search needs
+
+loop-again : tie.Need-loop-again Inv-loop μ-loop
+unfolding fromBase
+loop-again c =
+    let l = c .before .before .before .loop in
+    let card = c .before .before .before .before .before .args .card .now in
+    (omega arith, rw (add-one (l .i), List·getD-map digitValue card (l .i) 0) (omega arith))
+
+returns : tie.Need-returns Inv-loop μ-loop
+returns c =
+    let e : c .before .loop .i ≡ length (c .before .before .before .args .card .now) = omega arith in
+    rw e at (c .before .loop .inv .1)
+
+pub number-word-spec : {M : Type 1} → statement M
+number-word-spec =
+    tie.close
+    (tie.spec
+    Inv-loop
+    μ-loop
+    loop-holds
+    shared-slice-read-with-half-byte
+    sub-with-half-byte
+    with-half-byte-requires
+    add-i
+    loop-less
+    loop-again
+    returns)

@@ -1,0 +1,65 @@
+use borrow.Author.Needs.{needs}
+use borrow.Rule.Slice.PartMut.{midOf, putMid}
+use mathlib.Core.Path.{_≡_, refl, ap₂, _∙_}
+use mathlib.Core.List.{List, _++_}
+use Prim.Native.Nat.{ℕ}
+use lib.ListN.{replicate}
+use Rattle.lent.specs.Result.{done, Written}
+use Rattle.lent.specs.Words.{toBase, wordBytes}
+use Rattle.card.proofs.keys.derived_key.Statement.{statement}
+use Rattle.card.proofs.keys.derived_key.Tie as tie
+
+encipher-requires : tie.Need-encipher-requires
+encipher-requires c κs = search needs
+
+slice-aggregate-lend-word : tie.Need-slice-aggregate-lend-word
+slice-aggregate-lend-word c = search needs
+
+lend-word-requires : tie.Need-lend-word-requires
+lend-word-requires c κs = search needs
+
+encipher-requires-2 : tie.Need-encipher-requires-2
+encipher-requires-2 c κs = search needs
+
+sub-lend-word : tie.Need-sub-lend-word
+sub-lend-word c = search needs
+
+part-value-start : tie.Need-part-value-start
+part-value-start c = search needs
+
+part-value-end : tie.Need-part-value-end
+part-value-end c = search needs
+
+lend-word-requires-2 : tie.Need-lend-word-requires-2
+lend-word-requires-2 c κs = search needs
+
+-- two words lent one behind the other
+two-words : (a b : ℕ) {v w : List ℕ} {m n k l : ℕ}
+    → Written (done (wordBytes a)) (replicate 16 0) m k v → Written (done (wordBytes b)) (midOf 8 8 v) n l w
+    → putMid 8 8 v w ≡ wordBytes a ++ wordBytes b
+unfolding toBase
+two-words a b p q = rw (p .memory, rw (p .memory) at (q .memory))
+
+returns : tie.Need-returns
+returns c =
+    let f = c .before .before .before .before .before .before .before .encipher in
+    let g = c .before .before .before .encipher2 in
+    record {
+      number = refl;
+      value = two-words (f .result) (g .result) (c .before .before .before .before .before .lend-word .ensures) (c .before .lend-word2 .ensures)
+          ∙ ap₂ (λ (a b : ℕ). wordBytes a ++ wordBytes b) (f .ensures) (g .ensures);
+    }
+
+pub derived-key-spec : {M : Type 1} → statement M
+derived-key-spec =
+    tie.close
+    (tie.spec
+    encipher-requires
+    slice-aggregate-lend-word
+    lend-word-requires
+    encipher-requires-2
+    sub-lend-word
+    part-value-start
+    part-value-end
+    lend-word-requires-2
+    returns)

@@ -1,0 +1,49 @@
+// The card key and the session key.
+use crate::derivation::derivation_data;
+use crate::double_key::encipher;
+ghost use mathlib.Core.Path.{_≡_};
+ghost use lib.ListN.{length};
+ghost use Rattle.lent.specs.Result.{Answered, done};
+ghost use Rattle.card.specs.DoubleKey.{derivedKey};
+ghost use Rattle.card.specs.Entries;
+
+// The key that two blocks give: triple DES of each.
+fn derived_key(key: &[u8], first: u64, second: u64) -> lent::DoubleBlock
+    requires { ⌜ length (now key) ≡ 16 ⌝ }
+    ensures { λ r. ⌜ Answered 16 (done (derivedKey (now (key .entry)) first second)) (r .number) (r .value) ⌝ }
+{
+    let mut value = [0u8; 16];
+    lent::lend_word(encipher(key, first), &mut value);
+    lent::lend_word(encipher(key, second), &mut value[8..]);
+    lent::DoubleBlock {
+        number: lent::DONE,
+        value,
+    }
+}
+
+// The card key of a card number and sequence under the master key: 6 where the master key has not 16 bytes, the card number not 13 to
+// 19 characters or the sequence is above 99, 7 where a character is not a digit.
+pub fn card_key(master: &[u8], card: &[u8], sequence: u32) -> lent::DoubleBlock
+    ensures { λ r. ⌜ Answered 16 (Entries.cardKey (now (master .entry)) (now (card .entry)) sequence) (r .number) (r .value) ⌝ }
+{
+    if master.len() != 16 {
+        return lent::refused_double_block(lent::SIZE);
+    }
+    let data = derivation_data(card, sequence);
+    if data.number != lent::DONE {
+        return lent::refused_double_block(data.number);
+    }
+    let bytes = data.value;
+    let y = lent::word_of(&bytes);
+    derived_key(master, y, !y)
+}
+
+// The session key of a transaction counter under the card key: 6 where the card key has not 16 bytes.
+pub fn session_key(card_key: &[u8], counter: u16) -> lent::DoubleBlock
+    ensures { λ r. ⌜ Answered 16 (Entries.sessionKey (now («card_key» .entry)) counter) (r .number) (r .value) ⌝ }
+{
+    if card_key.len() != 16 {
+        return lent::refused_double_block(lent::SIZE);
+    }
+    derived_key(card_key, counter as u64, (!counter) as u64)
+}
