@@ -10,18 +10,19 @@ use lib.Arith.{digits-mod}
 use lib.Dec.{leb, lit<}
 use lib.ListN.{length, take, drop, replicate, length-append, length-map, length-replicate, length-drop, take-append-drop}
 use lib.Seq.{length-take-le}
+use Rattle.lent.proofs.Parts.{from-append, from-zeros}
+use Rattle.lent.proofs.Lists.{all-append, all-replicate, all-drop}
+use Rattle.lent.proofs.Results.{require-zero}
+use Rattle.lent.specs.CardNumbers.{cardSize}
 use Rattle.lent.specs.Choice.{all, between}
-use Rattle.lent.specs.Characters.{digit}
+use Rattle.lent.specs.Characters.{digit, digitValue}
 use Rattle.lent.specs.Numbers.{size, character}
 use Rattle.lent.specs.Result.{done, number, fixed, require}
 use Rattle.lent.specs.Words.{fromBase, toBase, wordBytes}
 use Rattle.lent.proofs.Bases.{Digits, from-lt}
-use Rattle.lent.proofs.Laws.{cases, both-true, between-true}
-use Rattle.card.specs.Derivation.{cardSize, sequenceRange, digitValue, cardDigits, rightmost, derivationWord}
+use Rattle.lent.proofs.Laws.{cases, both-true, between-true, within}
+use Rattle.card.specs.Derivation.{sequenceRange, cardDigits, rightmost, derivationWord}
 use Rattle.card.specs.Entries.{derivationData}
-use Rattle.card.proofs.Bases.{from-append, from-zeros}
-use Rattle.card.proofs.Lists.{all-append, all-replicate, all-drop}
-use Rattle.card.proofs.Tests.{within, passed}
 
 -- ---- each digit is 0 to 9
 
@@ -121,7 +122,7 @@ pub derived-bytes : (card : List ℕ) (sequence : ℕ) {value : List ℕ}
 unfolding derivationData
 derived-bytes card sequence e v =
     let y = done (wordBytes (derivationWord card sequence)) in
-    let h = passed (cardSize card) 5 (require (sequenceRange sequence) size (require (all digit card) character y)) e in
-    let i = passed (sequenceRange sequence) 5 (require (all digit card) character y) (h .1) in
-    let j = passed (all digit card) 6 y (i .1) in
+    let h = require-zero (cardSize card) size (require (sequenceRange sequence) size (require (all digit card) character y)) (lit< tt) e in
+    let i = require-zero (sequenceRange sequence) size (require (all digit card) character y) (lit< tt) (h .1) in
+    let j = require-zero (all digit card) character y (lit< tt) (i .1) in
     simp (h .0, i .0, j .0) (ap done (sym (simp (h .0, i .0, j .0) at v)))

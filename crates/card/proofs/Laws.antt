@@ -8,16 +8,17 @@ use native.Mathlib.Omega.{arith}
 use lib.Dec.{lit<}
 use lib.ListN.{length, getD, take, replicate}
 use lib.Seq.{take-append-seam, getD-append-seam, getD-append-add}
+use Rattle.lent.proofs.Lists.{zeros-at}
+use Rattle.lent.specs.CardNumbers.{cardSize}
 use Rattle.lent.specs.Choice.{all, between}
 use Rattle.lent.specs.Characters.{digit}
 use Rattle.lent.specs.Result.{done}
 use Rattle.lent.specs.Words.{fromBase, toBase, word, wordBytes}
 use Rattle.lent.proofs.Bases.{to-length, to-from, from-to, from-lt}
-use Rattle.card.specs.Derivation.{cardSize, sequenceRange, cardDigits, rightmost, derivationWord}
+use Rattle.card.specs.Derivation.{sequenceRange, cardDigits, rightmost, derivationWord}
 use Rattle.card.specs.Entries.{derivationData}
 use Rattle.card.specs.Padding.{padded}
 use Rattle.card.proofs.Derivations.{digits-decimal, half-bytes, rightmost-length, derived}
-use Rattle.card.proofs.Lists.{zeros-at}
 use Rattle.card.proofs.Paddings.{padded-length}
 
 -- ---- padding

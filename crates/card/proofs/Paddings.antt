@@ -1,12 +1,12 @@
 -- Laws on padded data.
-use mathlib.Core.Path.{_≡_, ap, _∙_}
+use mathlib.Core.Path.{_≡_}
 use mathlib.Core.List.{List, _∷_, _++_}
 use Prim.Native.Nat.{ℕ, suc, _+_, _-_, _*_, _/_, _%_, _≤_}
 use native.Mathlib.Omega.{arith}
 use lib.ListN.{length, take, set, replicate, length-append, length-replicate}
 use lib.Seq.{set-append-seam, take-append-add}
+use Rattle.lent.proofs.Lists.{take-replicate}
 use Rattle.card.specs.Padding.{padded}
-use Rattle.card.proofs.Lists.{zeros-before}
 
 -- one block more than the data's whole blocks
 pub padded-length : (s : List ℕ) → length (padded s) ≡ 8 * (length s / 8 + 1)
@@ -21,5 +21,10 @@ padded-stored s h =
     let n = length s in
     let room : 256 - n ≡ suc (255 - n) = omega arith in
     let size : 8 * (n / 8 + 1) ≡ n + suc (7 - n % 8) = omega arith in
-    rw (room, set-append-seam s 0 (replicate (255 - n) 0) 128, size, take-append-add s (128 ∷ replicate (255 - n) 0) (suc (7 - n % 8)),
-      zeros-before (7 - n % 8) (255 - n) (omega arith))
+    rw (
+      room,
+      set-append-seam s 0 (replicate (255 - n) 0) 128,
+      size,
+      take-append-add s (128 ∷ replicate (255 - n) 0) (suc (7 - n % 8)),
+      take-replicate (7 - n % 8) (255 - n) 0 (omega arith),
+    )

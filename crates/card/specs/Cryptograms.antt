@@ -3,9 +3,9 @@ use mathlib.Core.List.{List, _++_}
 use Prim.Native.Nat.{ℕ}
 use lib.Bits.{bitXor}
 use lib.ListN.{replicate}
-use Rattle.lent.specs.Words.{word}
+use Rattle.lent.specs.Words.{word, left, right}
 use Rattle.card.specs.Algorithm3.{macAlgorithm3}
-use Rattle.card.specs.DoubleKey.{left, right, enciphered}
+use Rattle.card.specs.DoubleKey.{enciphered}
 use Rattle.card.specs.Padding.{padded}
 
 -- the ARQC: algorithm 3 over the padded data

@@ -4,20 +4,12 @@ use mathlib.Core.List.{List, _++_, map}
 use Prim.Native.Nat.{ℕ, _-_}
 use lib.Dec.{leb}
 use lib.ListN.{length, drop, replicate}
-use Rattle.lent.specs.Choice.{between}
+use Rattle.lent.specs.Characters.{digitValue}
 use Rattle.lent.specs.Words.{fromBase, toBase}
-
--- a card number has 13 to 19 characters
-abbrev pub cardSize : List ℕ → Bool
-cardSize card = between 13 19 (length card)
 
 -- a card sequence is 0 to 99
 abbrev pub sequenceRange : ℕ → Bool
 sequenceRange sequence = leb sequence 99
-
--- the value of a digit of a text
-abbrev pub digitValue : ℕ → ℕ
-digitValue x = x - 48
 
 -- the digits of the card number, then two of the sequence
 unfoldable pub cardDigits : List ℕ → ℕ → List ℕ

@@ -3,21 +3,13 @@ use mathlib.Core.Bool.{Bool}
 use mathlib.Core.List.{List, _++_}
 use Prim.Native.Nat.{ℕ}
 use lib.Dec.{eqb}
-use lib.ListN.{length, drop}
-use Rattle.lent.specs.Words.{word, wordBytes}
+use lib.ListN.{length}
+use Rattle.lent.specs.Words.{left, right, wordBytes}
 use Rattle.cipher.specs.Triple.{tripleEncrypted}
 
 -- a key has 16 bytes
 abbrev pub keySize : List ℕ → Bool
 keySize key = eqb (length key) 16
-
--- the left half of a key
-abbrev pub left : List ℕ → ℕ
-left key = word key
-
--- the right half of a key
-abbrev pub right : List ℕ → ℕ
-right key = word (drop 8 key)
 
 -- a block under triple DES
 abbrev pub enciphered : List ℕ → ℕ → ℕ

@@ -3,13 +3,14 @@ use mathlib.Core.List.{List}
 use Prim.Native.Nat.{ℕ}
 use lib.Dec.{eqb}
 use lib.ListN.{length}
+use Rattle.lent.specs.CardNumbers.{cardSize}
 use Rattle.lent.specs.Choice.{all, between}
 use Rattle.lent.specs.Characters.{digit}
 use Rattle.lent.specs.Numbers.{size, character}
 use Rattle.lent.specs.Result.{Result, done, require, andThen}
 use Rattle.lent.specs.Words.{word, wordBytes}
 use Rattle.card.specs.Cryptograms.{arqcWord, arpcWord}
-use Rattle.card.specs.Derivation.{cardSize, sequenceRange, derivationWord}
+use Rattle.card.specs.Derivation.{sequenceRange, derivationWord}
 use Rattle.card.specs.DoubleKey.{keySize, derivedKey}
 use Rattle.card.specs.Session.{counterBytes}
 use Rattle.card.specs.Turned.{turned}

@@ -5,10 +5,10 @@ ghost use mathlib.Core.List.{map};
 ghost use Prim.Native.Nat.{_+_, _*_, _%_, _^_, _<_, _≤_};
 ghost use lib.ListN.{length};
 ghost use Rattle.lent.specs.Choice.{all};
-ghost use Rattle.lent.specs.Characters.{digit};
+ghost use Rattle.lent.specs.Characters.{digit, digitValue};
 ghost use Rattle.lent.specs.Result.{Answered};
 ghost use Rattle.lent.specs.Words.{fromBase};
-ghost use Rattle.card.specs.Derivation.{digitValue, derivationWord};
+ghost use Rattle.card.specs.Derivation.{derivationWord};
 ghost use Rattle.card.specs.Entries;
 
 // The word with one more half-byte behind it; its highest half-byte is dropped.

@@ -13,9 +13,11 @@ use Rattle.lent.specs.Result.{Result, done, require}
 abbrev pub space : ℕ
 space = 32
 
+-- 2C hex
 abbrev pub comma : ℕ
 comma = 44
 
+-- 2E hex
 abbrev pub fullStop : ℕ
 fullStop = 46
 

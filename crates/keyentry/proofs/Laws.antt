@@ -5,14 +5,13 @@ use mathlib.Core.Bool.{true}
 use mathlib.Core.List.{List, map}
 use mathlib.Core.Logic.{_⊎_}
 use Prim.Native.Nat.{ℕ, _*_}
-use native.Mathlib.Omega.{arith}
 use lib.ListN.{length}
 use Rattle.lent.specs.Choice.{all}
 use Rattle.lent.specs.Characters.{capitalized}
 use Rattle.lent.specs.Result.{done, number, bytes}
 use Rattle.lent.specs.Words.{byte}
 use Rattle.keyentry.specs.Hexadecimal.{textOf}
-use Rattle.keyentry.specs.KeyEntry.{keySize, fullText, keyEntry}
+use Rattle.keyentry.specs.KeyEntry.{keySize, keyEntry}
 use Rattle.keyentry.specs.declared.units.Bytes.{Bytes}
 use Rattle.keyentry.proofs.Sizes.{passes, entered}
 use Rattle.keyentry.proofs.Texts.{text-read, text-made, text-length, key-length}

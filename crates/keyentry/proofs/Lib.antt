@@ -1,5 +1,5 @@
-pub mod Doublings
-pub mod Sizes
-pub mod Pairs
-pub mod Texts
+mod Doublings
+mod Sizes
+mod Pairs
+mod Texts
 pub mod Laws

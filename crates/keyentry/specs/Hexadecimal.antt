@@ -1,7 +1,7 @@
 -- Hexadecimal digits, with letters of either case (01, Digits and bytes).
 use mathlib.Core.Bool.{Bool}
 use mathlib.Core.List.{List, [], _∷_}
-use Prim.Native.Nat.{ℕ, _+_, _-_, _*_, _/_, _%_}
+use Prim.Native.Nat.{ℕ, _+_, _-_, _/_, _%_}
 use lib.Dec.{ltb}
 use Rattle.lent.specs.Choice.{either, pick, between}
 use Rattle.lent.specs.Characters.{digit, capitalized}

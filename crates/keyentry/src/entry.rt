@@ -7,7 +7,7 @@ use crate::units::Doubling;
 use crate::units::digits_of;
 ghost use mathlib.Core.Path.{_≡_};
 ghost use mathlib.Core.Bool.{true};
-ghost use Prim.Native.Nat.{_+_, _*_, _≤_, _<_};
+ghost use Prim.Native.Nat.{_+_, _*_, _≤_};
 ghost use lib.ListN.{length, getD, take};
 ghost use Rattle.lent.specs.Choice.{all};
 ghost use Rattle.lent.specs.Result.{Written, number};

@@ -14,12 +14,15 @@ pub enum Doubling {
     TooLarge,
 }
 
+// The most bytes whose digits a usize can count.
+const MOST_BYTES: usize = 9223372036854775807;
+
 // Doubles bytes into digits.
 pub(crate) fn digits_of(size: Bytes) -> Doubling
     ensures { λ r. ⌜ r ≡ doubled size ⌝ }
 {
     let bytes = size.0;
-    if 9223372036854775807 < bytes {
+    if MOST_BYTES < bytes {
         return Doubling::TooLarge;
     }
     Doubling::Fits(Digits(2 * bytes))

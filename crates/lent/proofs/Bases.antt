@@ -1,14 +1,17 @@
 -- Laws on the digits of a number: from a number to its digits and back.
+use borrow.Author.Tests.{lt-ltb}
 use mathlib.Core.Path.{_≡_, refl, sym, ap, ap₂, _∙_}
-use mathlib.Core.List.{List, [], _∷_}
+use mathlib.Core.Bool.{true}
+use mathlib.Core.List.{List}
 use Prim.Native.Nat.{ℕ, zero, suc, _+_, _-_, _*_, _/_, _%_, _^_, _<_, _≤_}
-use native.Mathlib.Nat.{add-zero, add-suc, suc-add, pow-zero, pow-suc, pow-succ', mod-one, div-one, div-div-eq-div-mul, not-suc-le-zero, le-of-suc-le-suc, one-le-pow, add-sub-cancel-left, suc-sub-suc, sub-zero, add-sub-of-le}
+use native.Mathlib.Nat.{add-zero, add-suc, suc-add, pow-zero, pow-suc, pow-succ', mod-one, div-one, div-div-eq-div-mul, not-suc-le-zero, le-of-suc-le-suc, one-le-pow, add-sub-cancel-left, suc-sub-suc, sub-zero, add-sub-of-le, mod-lt, mod-eq-of-lt}
 use native.Mathlib.Omega.{arith}
 use lib.Arith.{digits-div, digits-mod, digits-lt, mod-mul}
 use lib.Dec.{lit<}
 use lib.ListN.{length, getD}
 use lib.Seq.{ext-getD}
-use Rattle.lent.specs.Words.{fromBase, toBase}
+use Rattle.lent.specs.Choice.{all}
+use Rattle.lent.specs.Words.{byte, fromBase, toBase, word, wordBytes}
 
 -- n digits are n
 pub to-length : (b n x : ℕ) → length (toBase b n x) ≡ n
@@ -78,3 +81,15 @@ module _ (b : ℕ) where
       ap (λ (m : ℕ). fromBase b n (toBase b m x)) (sym (add-zero n))
       ∙ from-first p n zero x
       ∙ ap (λ (y : ℕ). y % b ^ n) (rw (pow-zero b) (div-one x))
+
+-- ---- words and their bytes
+
+-- the digits to the base 256 are bytes
+pub to-bytes : (n x : ℕ) → all byte (toBase 256 n x) ≡ true
+unfolding toBase
+to-bytes zero x = refl
+to-bytes (suc n) x = simp (lt-ltb (x / 256 ^ n % 256) 256 (mod-lt (x / 256 ^ n) (lit< tt)), to-bytes n x)
+
+-- a word from its bytes
+pub word-back : (x : ℕ) → x < 2 ^ 64 → word (wordBytes x) ≡ x
+word-back x h = from-to 256 (lit< tt) 8 x ∙ mod-eq-of-lt h

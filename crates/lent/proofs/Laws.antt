@@ -1,5 +1,5 @@
 -- Laws on choices, tests and lists that several crates cite.
-use borrow.Author.Tests.{leb-true}
+use borrow.Author.Tests.{leb-true, le-leb, lt-leb}
 use mathlib.Core.Path.{_≡_, refl}
 use mathlib.Core.Bool.{Bool, true, false}
 use mathlib.Core.List.{List, [], _∷_}
@@ -29,6 +29,17 @@ both-true false b e = (e, cc)
 -- a number between two
 pub between-true : (lo hi x : ℕ) → between lo hi x ≡ true → (lo ≤ x) × (x ≤ hi)
 between-true lo hi x e = let h = both-true (leb lo x) (leb x hi) e in (leb-true lo x (h .0), leb-true x hi (h .1))
+
+-- a number in a range, below it and above it
+module _ (lo hi x : ℕ) where
+  pub within : lo ≤ x → x ≤ hi → between lo hi x ≡ true
+  within h i = simp (le-leb lo x h, le-leb x hi i)
+
+  pub below : x < lo → between lo hi x ≡ false
+  below h = simp (lt-leb lo x h)
+
+  pub above : hi < x → between lo hi x ≡ false
+  above h = cases (leb lo x) (λ e. simp (e, lt-leb x hi h)) (λ e. simp e)
 
 -- a list from place i on: its element there, then the rest
 pub drop-next : (s : List ℕ) (i : ℕ) → i < length s → drop i s ≡ getD s i 0 ∷ drop (i + 1) s

@@ -1,3 +1,5 @@
 pub mod Laws
 pub mod Bases
+pub mod Lists
+pub mod Parts
 pub mod Results

@@ -7,7 +7,7 @@ use native.Mathlib.Omega.{arith}
 use lib.ListN.{length, take, drop, length-append}
 use lib.Seq.{take-append-seam}
 use Rattle.lent.proofs.Laws.{never}
-use Rattle.lent.specs.Result.{Result, done, refused, number, require, andThen, bytes, lend, over, Written}
+use Rattle.lent.specs.Result.{Result, done, refused, number, require, andThen, bytes, lend, over, Answered, Written}
 
 module _ {A : Type 0} where
   -- an answer whose number is not 0 is that refusal
@@ -23,6 +23,11 @@ module _ {A : Type 0} where
   pub require-done : (test : Bool) (n : ℕ) (r : Result A) (a : A) → require test n r ≡ done a → (test ≡ true) × (r ≡ done a)
   require-done true n r a e = (refl, e)
   require-done false n r a e = never (cc)
+
+-- the number 0 under a test that refuses with another: the test held
+pub require-zero : {A : Type 0} (test : Bool) (n : ℕ) (r : Result A) → 0 < n → 0 ≡ number (require test n r) → (test ≡ true) × (0 ≡ number r)
+require-zero true n r p e = (refl, e)
+require-zero false n r p e = absurd (omega arith)
 
 -- a value that came of going on came from a value
 pub then-done : {A B : Type 0} (r : Result A) (f : A → Result B) (b : B) → andThen r f ≡ done b → (a : A) × (r ≡ done a) × (f a ≡ done b)
@@ -45,6 +50,11 @@ require-numbered false n p h = λ e. let z : n ≡ 0 = cc in omega arith
 pub then-numbered : {A B : Type 0} (r : Result A) (f : A → Result B) → Numbered r → ((a : A) → Numbered (f a)) → Numbered (andThen r f)
 then-numbered (done a) f h k = k a
 then-numbered (refused n) f h k = λ e. let z : n ≡ 0 = cc in h (ap refused z)
+
+-- an answer by value whose number is 0 is its value
+pub answered-done : (n : ℕ) (answer : Result (List ℕ)) {num : ℕ} {val : List ℕ} → Numbered answer → Answered n answer num val → num ≡ 0 → answer ≡ done val
+answered-done n (done b) h a z = ap done (sym (a .value))
+answered-done n (refused k) h a z = absurd (h (ap refused (sym (a .number) ∙ z)))
 
 -- ---- lent memory
 

@@ -7,6 +7,10 @@ use Rattle.lent.specs.Choice.{between, pick}
 abbrev pub digit : ℕ → Bool
 digit x = between 48 57 x
 
+-- the value of a digit
+abbrev pub digitValue : ℕ → ℕ
+digitValue x = x - 48
+
 -- A to Z
 abbrev pub capital : ℕ → Bool
 capital x = between 65 90 x

@@ -9,7 +9,7 @@ abbrev pub both : Bool → Bool → Bool
 both true b = b
 both false b = false
 
--- one of the tests holds
+-- at least one of the tests holds
 abbrev pub either : Bool → Bool → Bool
 either true b = true
 either false b = b

@@ -1,5 +1,4 @@
 // The MAC of free text and of a message (01, The message and its MAC text).
-ghost use mathlib.Core.Path.{_≡_};
 ghost use Rattle.lent.specs.Result.{Answered, done};
 ghost use Rattle.mac.specs.Mac.{macOf, textMac, messageMac};
 

@@ -1,5 +1,6 @@
 -- The register key of a counter, from the initial key, as the host derives it (01, Terminal keys).
--- K is the type of a key, F the one-way step on a key and the data, `serial` the last eight bytes of the serial number with the counter cleared.
+-- K is the type of a key, F the one-way step on a key and the data, `serial` the last eight bytes of the serial number with the
+-- counter cleared, so that adding a counter sets its bits.
 use mathlib.Core.Bool.{cond}
 use Prim.Native.Nat.{ℕ, zero, suc, _+_, _*_, _/_, _^_}
 use lib.Dec.{eqb}

@@ -38,6 +38,7 @@ module _ {K G : Type 0} (device : Device K G) where
     pub unfilled : s .filled ≡ 0
     pub bare : (b : ℕ) → b < 21 → Blank s b
 
-  -- the state hangs together; the keys in filled registers are not looked at
+  -- the state hangs together; the keys in filled registers are not looked at. That the counter bits of the serial number are clear is asked by
+  -- the record that holds its bytes (crate terminal)
   abbrev pub Valid : State K → Type 0
   Valid s = Running s ⊎ Stopped s

@@ -31,7 +31,7 @@ fn taken() {
     case(7, b"0123456789abcdeffedcba9876543210", 16, 24);
 }
 
-// Sizes: version one's fault is number 8, sixteen digits taken for sixteen bytes.
+// Sizes: in number 8, sixteen digits are eight bytes and not sixteen.
 fn sizes() {
     case(8, b"0123456789ABCDEF", 16, 16);
     case(9, b"01234567", 8, 8);

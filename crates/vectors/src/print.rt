@@ -20,8 +20,8 @@ pub(crate) fn name(operation: &[u8], set: &[u8], number: u64) {
     text(&[digit(number / 100), digit(number / 10), digit(number)]);
 }
 
-// Writes the hexadecimal digits of bytes.
-fn digits(s: &[u8]) {
+// Writes the hexadecimal digits of bytes, with no space before them.
+pub(crate) fn digits(s: &[u8]) {
     let mut i: usize = 0;
     while i < s.len() {
         text(&keyentry::byte_text(s[i]));
@@ -73,6 +73,11 @@ pub(crate) fn written(number: u8, length: usize, buffer: &[u8]) {
     if length <= buffer.len() {
         result(number, &buffer[..length]);
     }
+}
+
+// Starts a field that is written in parts.
+pub(crate) fn space() {
+    text(b" ");
 }
 
 // Ends the line.

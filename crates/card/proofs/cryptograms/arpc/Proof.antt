@@ -1,8 +1,8 @@
 use borrow.Author.Needs.{needs}
 use borrow.Author.Tests.{eq-eqb, ne-eqb}
+use Rattle.lent.proofs.Parts.{from-zeros-behind}
 use Rattle.card.specs.Cryptograms.{arpcWord}
 use Rattle.card.specs.Entries.{arpc}
-use Rattle.card.proofs.Bases.{from-zeros-behind}
 use Rattle.card.proofs.cryptograms.arpc.Statement.{statement}
 use Rattle.card.proofs.cryptograms.arpc.Tie as tie
 

@@ -2,8 +2,8 @@ use borrow.Author.Needs.{needs}
 use borrow.Author.Tests.{eq-eqb, ne-eqb}
 use native.Mathlib.Omega.{arith}
 use lib.ListN.{length}
+use Rattle.lent.proofs.Laws.{within, below, above}
 use Rattle.card.specs.Entries.{arqc}
-use Rattle.card.proofs.Tests.{within, below, above}
 use Rattle.card.proofs.cryptograms.arqc.Statement.{statement}
 use Rattle.card.proofs.cryptograms.arqc.Tie as tie
 

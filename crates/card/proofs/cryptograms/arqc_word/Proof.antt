@@ -1,9 +1,9 @@
 use borrow.Author.Needs.{needs}
 use mathlib.Core.Path.{sym}
 use lib.Seq.{length-take-le}
+use Rattle.lent.proofs.Lists.{part-rest}
 use Rattle.card.specs.Algorithm3.{macAlgorithm3}
 use Rattle.card.specs.Cryptograms.{arqcWord}
-use Rattle.card.proofs.Lists.{part-rest}
 use Rattle.card.proofs.cryptograms.arqc_word.Statement.{statement}
 use Rattle.card.proofs.cryptograms.arqc_word.Tie as tie
 
@@ -51,8 +51,14 @@ unfolding arqcWord macAlgorithm3
 returns c =
     let a = c .before .before .before .before .before .before .before .before .before .before .args in
     let k = c .before .before .before .before .before in
-    rw (← k .before .before .word-of .ensures, ← part-rest 8 (a .key .now), ← k .word-of2 .ensures, ← c .before .before .before .before .padded-bytes .ensures,
-      ← c .before .before .chained .ensures, ← c .before .decrypt .ensures)
+    rw (
+      ← k .before .before .word-of .ensures,
+      ← part-rest 8 (a .key .now),
+      ← k .word-of2 .ensures,
+      ← c .before .before .before .before .padded-bytes .ensures,
+      ← c .before .before .chained .ensures,
+      ← c .before .decrypt .ensures,
+    )
     (c .encrypt .ensures)
 
 pub arqc-word-spec : {M : Type 1} → statement M

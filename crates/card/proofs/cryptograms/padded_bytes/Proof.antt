@@ -5,8 +5,8 @@ use mathlib.Core.List.{List, _++_}
 use Prim.Native.Nat.{ℕ, _-_, _≤_}
 use native.Mathlib.Omega.{arith}
 use lib.ListN.{length, replicate, length-replicate}
+use Rattle.lent.proofs.Lists.{drop-replicate}
 use Rattle.lent.specs.Result.{done, Written}
-use Rattle.card.proofs.Lists.{zeros-after}
 use Rattle.card.proofs.Paddings.{padded-stored}
 use Rattle.card.proofs.cryptograms.padded_bytes.Statement.{statement}
 use Rattle.card.proofs.cryptograms.padded_bytes.Tie as tie
@@ -24,7 +24,7 @@ array-write-bytes c = search needs
 lent-zeros : (s : List ℕ) {v : List ℕ} {m k : ℕ} → length s ≤ 255 → Written (done s) (replicate 256 0) m k v → v ≡ s ++ replicate (256 - length s) 0
 lent-zeros s h w =
     let fits : length s ≤ 256 = omega arith in
-    simp (length-replicate, le-leb (length s) 256 fits, zeros-after 256 (length s)) at (w .memory)
+    simp (length-replicate, le-leb (length s) 256 fits, drop-replicate (length s) 256 0) at (w .memory)
 
 returns : tie.Need-returns
 returns c =

@@ -4,12 +4,13 @@ use mathlib.Core.Path.{_≡_, sym, _∙_}
 use mathlib.Core.Bool.{true}
 use native.Mathlib.Omega.{arith}
 use lib.ListN.{length}
+use Rattle.lent.proofs.Laws.{within, below, above}
+use Rattle.lent.specs.CardNumbers.{cardSize}
 use Rattle.lent.specs.Choice.{all}
 use Rattle.lent.specs.Characters.{digit}
-use Rattle.card.specs.Derivation.{cardSize, sequenceRange}
+use Rattle.card.specs.Derivation.{sequenceRange}
 use Rattle.card.specs.Entries.{derivationData}
 use Rattle.card.proofs.Derivations.{derived}
-use Rattle.card.proofs.Tests.{within, below, above}
 use Rattle.card.proofs.derivation.derivation_data.Statement.{statement}
 use Rattle.card.proofs.derivation.derivation_data.Tie as tie
 

@@ -4,8 +4,8 @@ use mathlib.Core.List.{map}
 use Prim.Native.Nat.{ℕ, _+_, _*_, _/_, _%_, _^_}
 use native.Mathlib.Omega.{arith}
 use lib.ListN.{length}
+use Rattle.lent.specs.Characters.{digitValue}
 use Rattle.lent.specs.Words.{fromBase}
-use Rattle.card.specs.Derivation.{digitValue}
 use Rattle.card.proofs.Derivations.{derivation-value}
 use Rattle.card.proofs.derivation.derivation_word.Statement.{statement}
 use Rattle.card.proofs.derivation.derivation_word.Tie as tie

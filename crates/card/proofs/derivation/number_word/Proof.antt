@@ -5,10 +5,9 @@ use Prim.Native.Nat.{_-_, _%_, _^_, _≤_}
 use native.Mathlib.Numerals.{add-one}
 use native.Mathlib.Omega.{arith}
 use lib.ListN.{length, getD, List·getD-map}
-use Rattle.lent.specs.Characters.{digit}
+use Rattle.lent.specs.Characters.{digit, digitValue}
 use Rattle.lent.specs.Words.{fromBase}
 use Rattle.lent.proofs.Laws.{between-true, all-at}
-use Rattle.card.specs.Derivation.{digitValue}
 use Rattle.card.proofs.derivation.number_word.Statement.{statement}
 use Rattle.card.proofs.derivation.number_word.Tie as tie
 

@@ -1,9 +1,9 @@
 use borrow.Author.Needs.{needs}
 use mathlib.Core.Path.{ap, ap₂, _∙_}
 use Prim.Native.Nat.{ℕ}
+use Rattle.lent.proofs.Lists.{part-rest}
 use Rattle.lent.specs.Words.{word}
 use Rattle.cipher.specs.Triple.{tripleEncrypted}
-use Rattle.card.proofs.Lists.{part-rest}
 use Rattle.card.proofs.double_key.encipher.Statement.{statement}
 use Rattle.card.proofs.double_key.encipher.Tie as tie
 

@@ -1,8 +1,7 @@
 use borrow.Author.Needs.{needs}
 use mathlib.Core.Path.{_≡_, sym, _∙_}
-use Prim.Native.Nat.{_+_, _*_, _<_, _≤_, _^_}
+use Prim.Native.Nat.{_*_}
 use native.Mathlib.Omega.{arith}
-use lib.ListN.{length}
 use Rattle.lent.proofs.Laws.{all-at}
 use Rattle.keyentry.specs.Hexadecimal.{hexadecimal}
 use Rattle.keyentry.proofs.Doublings.{told, not-too-large}

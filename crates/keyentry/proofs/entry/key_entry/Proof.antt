@@ -1,15 +1,14 @@
 use borrow.Author.Needs.{needs}
 use borrow.Author.Tests.{eqb-true}
-use mathlib.Core.Path.{_≡_, refl, sym, ap, _∙_}
+use mathlib.Core.Path.{_≡_, refl, sym, _∙_}
 use mathlib.Core.Bool.{true}
 use Prim.Native.Nat.{_≤_}
 use native.Mathlib.Omega.{arith}
 use lib.Seq.{length-take-le}
 use Rattle.lent.specs.Choice.{all}
-use Rattle.lent.specs.Result.{done}
 use Rattle.lent.proofs.Results.{refused-as, refused-written}
 use Rattle.keyentry.specs.Hexadecimal.{hexadecimal}
-use Rattle.keyentry.specs.KeyEntry.{keySize, fullText, keyEntry}
+use Rattle.keyentry.specs.KeyEntry.{keySize, fullText}
 use Rattle.keyentry.proofs.Sizes.{key-size-le, passes, entered}
 use Rattle.keyentry.proofs.entry.key_entry.Statement.{statement}
 use Rattle.keyentry.proofs.entry.key_entry.Tie as tie

@@ -1,11 +1,10 @@
 use borrow.Author.Needs.{needs}
 use borrow.Author.Tests.{eq-eqb, ne-eqb, not-true, not-false}
-use mathlib.Core.Path.{_≡_, sym, ap, _∙_}
+use mathlib.Core.Path.{_≡_, sym, _∙_}
 use mathlib.Core.Bool.{true}
 use Prim.Native.Nat.{_*_, _^_, _<_}
 use native.Mathlib.Omega.{arith}
 use lib.ListN.{length}
-use Rattle.lent.specs.Result.{number}
 use Rattle.keyentry.specs.KeyEntry.{keySize}
 use Rattle.keyentry.proofs.Doublings.{told, not-too-large}
 use Rattle.keyentry.proofs.Sizes.{key-size-le, size-refused, text-refused, character-refused, entered}

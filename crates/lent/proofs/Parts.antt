@@ -1,4 +1,4 @@
--- Laws on the number of digits that stand in two parts.
+-- Laws on the number of digits that stand in two parts, or before zeros.
 use mathlib.Core.Path.{_≡_, refl}
 use mathlib.Core.List.{List, _++_}
 use Prim.Native.Nat.{ℕ, zero, suc, _+_, _*_, _^_, _≤_}
@@ -6,8 +6,8 @@ use native.Mathlib.Nat.{add-zero, add-suc, add-assoc, add-mul, mul-one, mul-asso
 use native.Mathlib.Omega.{arith}
 use lib.ListN.{length, replicate, List·getD-append}
 use lib.Seq.{getD-append-add}
 use Rattle.lent.specs.Words.{fromBase}
-use Rattle.card.proofs.Lists.{zeros-at, zeros-behind}
+use Rattle.lent.proofs.Lists.{zeros-at, zeros-behind}
 
 module _ (b : ℕ) where
   -- the first n digits, with others behind them

@@ -1,0 +1,80 @@
+-- What each entry answers: its value, or the refusal that comes first (01, Numbers an operator sees; PIN blocks). 13, for a buffer
+-- shorter than the PIN, comes after these.
+use mathlib.Core.Bool.{Bool}
+use mathlib.Core.List.{List}
+use Prim.Native.Nat.{ℕ}
+use lib.Bits.{bitXor}
+use lib.Dec.{eqb}
+use lib.ListN.{length}
+use Rattle.lent.specs.CardNumbers.{cardSize}
+use Rattle.lent.specs.Choice.{all}
+use Rattle.lent.specs.Characters.{digit}
+use Rattle.lent.specs.Numbers.{size, character}
+use Rattle.lent.specs.Result.{Result, done, require, andThen}
+use Rattle.lent.specs.Words.{word, wordBytes}
+use Rattle.pinblock.specs.Pin.{pinSize, pinBlock}
+use Rattle.pinblock.specs.CardNumber.{cardPart, pinBlockWithCard}
+use Rattle.pinblock.specs.Reading.{pinOf}
+use Rattle.pinblock.specs.Enciphering.{keySize, enciphered, deciphered}
+
+-- a block has 8 bytes
+abbrev pub blockSize : List ℕ → Bool
+blockSize block = eqb (length block) 8
+
+-- ---- clear blocks
+
+-- the eight bytes of a PIN's block
+unfoldable pub make : List ℕ → Result (List ℕ)
+make pin =
+    require (pinSize pin) size
+    (require (all digit pin) character
+    (done (wordBytes (pinBlock pin))))
+
+-- the eight bytes of a PIN's block with a card number
+unfoldable pub makeWithCard : List ℕ → List ℕ → Result (List ℕ)
+makeWithCard pin card =
+    require (pinSize pin) size (require (cardSize card) size
+    (require (all digit pin) character (require (all digit card) character
+    (done (wordBytes (pinBlockWithCard pin card))))))
+
+-- the PIN of a block
+unfoldable pub read : List ℕ → Result (List ℕ)
+read block = require (blockSize block) size (pinOf (word block))
+
+-- the PIN of a block with a card number
+unfoldable pub readWithCard : List ℕ → List ℕ → Result (List ℕ)
+readWithCard block card =
+    require (blockSize block) size (require (cardSize card) size
+    (require (all digit card) character
+    (pinOf (bitXor (word block) (cardPart card)))))
+
+-- ---- enciphered blocks
+
+-- a block that was made, enciphered
+unfoldable pub underKey : List ℕ → Result (List ℕ) → Result (List ℕ)
+underKey key made =
+    require (keySize key) size
+    (andThen made (λ block. done (wordBytes (enciphered key (word block)))))
+
+-- a block, deciphered
+unfoldable pub clearBlock : List ℕ → List ℕ → Result (List ℕ)
+clearBlock block key =
+    require (blockSize block) size
+    (require (keySize key) size
+    (done (wordBytes (deciphered key (word block)))))
+
+-- the enciphered block of a PIN
+unfoldable pub encipher : List ℕ → List ℕ → Result (List ℕ)
+encipher pin key = underKey key (make pin)
+
+-- the enciphered block of a PIN with a card number
+unfoldable pub encipherWithCard : List ℕ → List ℕ → List ℕ → Result (List ℕ)
+encipherWithCard pin card key = underKey key (makeWithCard pin card)
+
+-- the PIN of an enciphered block, which is first deciphered and then read by the same rules
+unfoldable pub decipher : List ℕ → List ℕ → Result (List ℕ)
+decipher block key = andThen (clearBlock block key) read
+
+-- the same with a card number
+unfoldable pub decipherWithCard : List ℕ → List ℕ → List ℕ → Result (List ℕ)
+decipherWithCard block card key = andThen (clearBlock block key) (λ clear. readWithCard clear card)
