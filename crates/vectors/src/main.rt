@@ -6,6 +6,7 @@ mod keys;
 mod messages;
 mod pins;
 mod print;
+mod terminals;
 
 fn main() {
     des::print_all();
@@ -13,4 +14,5 @@ fn main() {
     messages::print_all();
     pins::print_all();
     cards::print_all();
+    terminals::print_all();
 }

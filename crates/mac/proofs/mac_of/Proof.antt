@@ -1,3 +1,4 @@
+-- `mac_of` meets its contract.
 use borrow.Author.Needs.{needs}
 use Rattle.mac.specs.Mac.{macOf}
 use Rattle.mac.proofs.mac_of.Statement.{statement}

@@ -1,3 +1,4 @@
+-- `message_mac` meets its contract.
 use borrow.Author.Needs.{needs}
 use mathlib.Core.Path.{_≡_, sym}
 use Prim.Native.Nat.{_≤_}

@@ -1,3 +1,4 @@
+-- `arpc` meets its contract.
 use borrow.Author.Needs.{needs}
 use borrow.Author.Tests.{eq-eqb, ne-eqb}
 use Rattle.lent.proofs.Parts.{from-zeros-behind}

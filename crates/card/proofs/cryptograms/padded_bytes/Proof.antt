@@ -1,3 +1,4 @@
+-- `padded_bytes` meets its contract.
 use borrow.Author.Needs.{needs}
 use borrow.Author.Tests.{le-leb}
 use mathlib.Core.Path.{_≡_}

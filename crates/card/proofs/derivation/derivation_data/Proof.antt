@@ -1,3 +1,4 @@
+-- `derivation_data` meets its contract.
 use borrow.Author.Needs.{needs}
 use borrow.Author.Tests.{le-leb, lt-leb, not-true, not-false}
 use mathlib.Core.Path.{_≡_, sym, _∙_}

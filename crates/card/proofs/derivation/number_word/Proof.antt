@@ -1,3 +1,4 @@
+-- `number_word` meets its contract.
 use borrow.Author.Needs.{needs}
 use mathlib.Core.Path.{_≡_, refl}
 use mathlib.Core.List.{map}

@@ -1,3 +1,4 @@
+-- `encipher` meets its contract.
 use borrow.Author.Needs.{needs}
 use mathlib.Core.Path.{ap, ap₂, _∙_}
 use Prim.Native.Nat.{ℕ}

@@ -1,3 +1,4 @@
+-- `derived_key` meets its contract.
 use borrow.Author.Needs.{needs}
 use borrow.Rule.Slice.PartMut.{midOf, putMid}
 use mathlib.Core.Path.{_≡_, refl, ap₂, _∙_}

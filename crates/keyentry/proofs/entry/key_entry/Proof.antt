@@ -1,3 +1,4 @@
+-- `key_entry` meets its contract.
 use borrow.Author.Needs.{needs}
 use borrow.Author.Tests.{eqb-true}
 use mathlib.Core.Path.{_≡_, refl, sym, _∙_}

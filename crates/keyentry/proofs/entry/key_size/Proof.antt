@@ -1,3 +1,4 @@
+-- `key_size` meets its contract.
 use borrow.Author.Tests.{eq-eqb, ne-eqb}
 use Rattle.keyentry.proofs.entry.key_size.Statement.{statement}
 use Rattle.keyentry.proofs.entry.key_size.Tie as tie

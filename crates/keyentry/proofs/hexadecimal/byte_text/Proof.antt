@@ -1,3 +1,4 @@
+-- `byte_text` meets its contract.
 use borrow.Author.Needs.{needs}
 use Rattle.keyentry.specs.Hexadecimal.{textOf}
 use Rattle.keyentry.proofs.hexadecimal.byte_text.Statement.{statement}

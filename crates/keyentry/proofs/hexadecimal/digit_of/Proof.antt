@@ -1,3 +1,4 @@
+-- `digit_of` meets its contract.
 use borrow.Author.Needs.{needs}
 use borrow.Author.Tests.{lt-ltb, le-ltb}
 use Rattle.keyentry.specs.Hexadecimal.{digitOf}

@@ -1,3 +1,4 @@
+-- `is_hexadecimal` meets its contract.
 use borrow.Author.Needs.{needs}
 use mathlib.Core.Path.{sym, _∙_}
 use Rattle.keyentry.specs.Hexadecimal.{hexadecimal}

@@ -1,3 +1,4 @@
+-- `digits_of` meets its contract.
 use borrow.Author.Needs.{needs}
 use borrow.Author.Tests.{lt-ltb, le-ltb}
 use Prim.Native.Nat.{_*_, _^_, _<_, _≤_}

@@ -1,3 +1,4 @@
+-- `between` meets its contract.
 use borrow.Author.Tests.{le-leb, lt-leb}
 use Rattle.lent.proofs.characters.between.Statement.{statement}
 use Rattle.lent.proofs.characters.between.Tie as tie

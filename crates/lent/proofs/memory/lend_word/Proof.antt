@@ -1,3 +1,4 @@
+-- `lend_word` meets its contract.
 use borrow.Author.Needs.{needs}
 use Rattle.lent.proofs.memory.lend_word.Statement.{statement}
 use Rattle.lent.proofs.memory.lend_word.Tie as tie

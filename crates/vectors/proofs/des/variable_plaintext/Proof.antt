@@ -1,3 +1,4 @@
+-- `variable_plaintext` meets its contract.
 use borrow.Author.Needs.{needs}
 use Prim.Native.Nat.{_≤_, _-_}
 use Rattle.vectors.proofs.des.variable_plaintext.Statement.{statement}

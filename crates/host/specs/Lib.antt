@@ -1,0 +1,3 @@
+pub mod SerialNumber
+pub mod Derivation
+pub mod Entries

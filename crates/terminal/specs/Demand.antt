@@ -1,0 +1,107 @@
+-- Demand 3 (01, Terminal keys): what holds of every list of calls for the next key that starts from a loading, however long.
+use mathlib.Core.Path.{_≡_}
+use mathlib.Core.Logic.{_⊎_}
+use mathlib.Core.List.{List, [], _∷_, _++_}
+use Prim.Native.Nat.{ℕ, suc, _+_, _≤_, _<_}
+use lib.ListN.{length, take, drop, replicate}
+use Rattle.lent.specs.Result.{Answered}
+use Rattle.lent.specs.Words.{wordBytes}
+use Rattle.lent.specs.Numbers as numbers
+use Rattle.registers.specs.Counters.{Nth, counterTotal}
+use Rattle.registers.specs.Rule.{Blank}
+use Rattle.registers.specs.Demand.{Waits, Follows}
+use Rattle.host.specs.SerialNumber.{withCounter, clearedTail}
+use Rattle.host.specs.Derivation.{initialKeyOf, hostKeyOf}
+use Rattle.host.specs.Entries.{initialKey, hostKey}
+use Rattle.terminal.specs.Record.{dukpt, view, ValidRecord}
+use Rattle.terminal.specs.Promises.{Load, Next, onDone}
+use Rattle.terminal.specs.declared.state.Terminal.{Terminal}
+use Rattle.terminal.specs.declared.loading.Loaded.{Loaded}
+use Rattle.terminal.specs.declared.calls.NextKey.{NextKey}
+
+-- ---- lists of calls
+
+-- a call of `next_key`: the lent buffer before it, its answer, and the buffer after it
+pub record Call : Type 0 where
+  pub before : List ℕ
+  pub answer : NextKey
+  pub after : List ℕ
+
+-- Calls that keep the promise of `next_key`: the first gets the record t, each later one the record that the last one returned, a refused
+-- one too.
+pub data Trace : Terminal → List Call → Type 0 where
+  none : {t : Terminal} → Trace t []
+  call : {t : Terminal} {x : Call} {later : List Call}
+      → Next t (x .before) (x .answer) (x .after) → Trace (x .answer .terminal) later → Trace t (x ∷ later)
+
+-- the record that they leave
+unfoldable pub recordAfter : Terminal → List Call → Terminal
+recordAfter t [] = t
+recordAfter t (x ∷ later) = recordAfter (x .answer .terminal) later
+
+-- how many of them are done, and so how many keys they gave out
+unfoldable pub doneIn : List Call → ℕ
+doneIn [] = 0
+doneIn (x ∷ later) = onDone (x .answer .number) 1 0 + doneIn later
+
+-- ---- what is demanded
+
+-- the call x with the record t gives out nothing, and changes neither the record nor the buffer
+pub record GivesNothing (t : Terminal) (x : Call) : Type 0 where
+  pub counter : x .answer .counter ≡ 0
+  pub serial-number : x .answer .serial ≡ replicate 10 0
+  pub terminal : x .answer .terminal ≡ t
+  pub memory : x .after ≡ x .before
+
+module _ (derivation serial : List ℕ) where
+  -- the call x gives out the n-th smallest permitted counter, and the host's key for it
+  pub record GivesNth (n : ℕ) (x : Call) : Type 0 where
+    pub nth : Nth n (x .answer .counter)
+    -- with it comes the serial number with its counter bits replaced by the counter
+    pub serial-number : x .answer .serial ≡ withCounter serial (x .answer .counter)
+    -- the key is in the first eight bytes of the buffer: the host's for that serial number
+    pub key : take 8 (x .after) ≡ wordBytes (hostKeyOf derivation (withCounter serial (x .answer .counter)))
+    -- and whatever `host_key` answers for that serial number is done and is that key
+    pub host : (number : ℕ) (value : List ℕ) → Answered 8 (hostKey derivation (withCounter serial (x .answer .counter))) number value
+        → (number ≡ 0) × (value ≡ take 8 (x .after))
+    -- the rest of the buffer keeps its old bytes
+    pub rest : drop 8 (x .after) ≡ drop 8 (x .before)
+
+  -- the call x with the record t, when n keys were given before it
+  pub record CallDemand (n : ℕ) (t : Terminal) (x : Call) : Type 0 where
+    -- until all are given, it is refused exactly if its buffer is shorter than eight bytes
+    pub full : n < counterTotal → 8 ≤ length (x .before) → x .answer .number ≡ 0
+    pub short : n < counterTotal → length (x .before) < 8 → x .answer .number ≡ numbers.shortBuffer
+    -- then it is refused always
+    pub over : n ≡ counterTotal → x .answer .number ≡ numbers.exhausted
+    -- done, it gives the next key in order; refused, none
+    pub done : x .answer .number ≡ 0 → GivesNth (suc n) x
+    pub refused : ¬ (x .answer .number ≡ 0) → GivesNothing t x
+
+  -- the record t, when n keys were given
+  pub record RecordDemand (n : ℕ) (t : Terminal) : Type 0 where
+    pub most : n ≤ counterTotal
+    -- it hangs together and follows the rule
+    pub valid : ValidRecord t
+    pub follows : Follows dukpt (initialKeyOf derivation serial) (clearedTail serial) n (view t)
+    -- each register is empty and zero, or holds the register key of a permitted counter that is not among the first n
+    pub registers : (b : ℕ) → b < 21
+        → Blank dukpt (view t) b ⊎ Waits dukpt (initialKeyOf derivation serial) (clearedTail serial) n (view t) b
+
+  -- the list of calls that starts from the record t
+  pub record Demand (t : Terminal) (calls : List Call) : Type 0 where
+    -- each call x of the list, with the calls before it
+    pub each-call : (earlier : List Call) (x : Call) (later : List Call) → calls ≡ earlier ++ (x ∷ later)
+        → CallDemand (doneIn earlier) (recordAfter t earlier) x
+    -- the record after the loading, when there are none before, and after each call
+    pub each-record : (earlier later : List Call) → calls ≡ earlier ++ later → RecordDemand (doneIn earlier) (recordAfter t earlier)
+
+-- Demand 3: for every derivation key and serial number, the host's initial key, a loading with it and the same serial number, both done, and
+-- every list of calls from the loaded record on
+abbrev pub Demand3 : Type 0
+Demand3 =
+    (derivation serial : List ℕ)
+    → (number : ℕ) (key : List ℕ) → Answered 8 (initialKey derivation serial) number key → number ≡ 0
+    → (loading : Loaded) → Load key serial loading → loading .number ≡ 0
+    → (calls : List Call) → Trace (loading .terminal) calls
+    → Demand derivation serial (loading .terminal) calls

@@ -1,0 +1,4 @@
+pub mod Record
+pub mod Promises
+pub mod Demand
+pub mod Private

@@ -1,0 +1,92 @@
+// The terminal's call for its next key.
+use crate::registers_of::renewed;
+use crate::state::Terminal;
+use crate::state::valid;
+ghost use mathlib.Core.Path.{_≡_};
+ghost use lib.ListN.{replicate};
+ghost use Rattle.registers.specs.Machine.{readyKey};
+ghost use Rattle.registers.specs.Rule.{Running};
+ghost use Rattle.terminal.specs.Record.{dukpt, view, afterKey};
+ghost use Rattle.terminal.specs.Promises.{Next};
+
+// The answer of a call for the next key: 0, the counter given out, the serial number with that counter in it, and the record after it; or the
+// refusal's number, zeros, and the record as it was.
+pub struct NextKey {
+    pub number: u8,
+    pub counter: u32,
+    pub serial: [u8; 10],
+    pub terminal: Terminal,
+}
+
+// The refusal of a call for the next key.
+fn refused(number: u8, t: Terminal) -> NextKey
+    ensures { λ r. ⌜ r ≡ record { number = number; counter = 0; serial = replicate 10 0; terminal = t } ⌝ }
+{
+    NextKey {
+        number,
+        counter: 0,
+        serial: [0u8; 10],
+        terminal: t,
+    }
+}
+
+// The key of the next counter: it stands in the register of the counter's lowest one bit.
+fn ready_key(t: Terminal) -> u64
+    requires { ⌜ Running dukpt (view t) ⌝ }
+    ensures { λ r. ⌜ r ≡ readyKey dukpt (view t) ⌝ }
+{
+    let l = registers::lowest_place(t.counter);
+    t.keys[l]
+}
+
+// The record after the key of its counter was given out.
+fn after_key(t: Terminal) -> Terminal
+    requires { ⌜ Running dukpt (view t) ⌝ }
+    ensures { λ r. ⌜ r ≡ afterKey t ⌝ }
+{
+    let old = t.keys;
+    let serial = t.serial;
+    let next = registers::next_counter(t.counter);
+    if next == 0 {
+        return Terminal {
+            keys: [0u64; 21],
+            filled: 0,
+            serial,
+            counter: 0,
+            exhausted: true,
+        };
+    }
+    let keys = renewed(old, host::cleared_tail(&serial), t.counter);
+    Terminal {
+        keys,
+        filled: registers::filled_mask(next),
+        serial,
+        counter: next,
+        exhausted: false,
+    }
+}
+
+// Gives out the next key, in the first eight bytes of `out`: 11 where the record does not hang together, 12 where it is exhausted, 13 where
+// `out` is shorter than the key. A refusal leaves the record and `out` as they were.
+pub fn next_key(t: Terminal, out: &mut [u8]) -> NextKey
+    ensures { λ r. ⌜ Next t (now (out .entry)) r (now (out .exit)) ⌝ }
+{
+    if !valid(t) {
+        return refused(lent::RECORD, t);
+    }
+    if t.exhausted {
+        return refused(lent::EXHAUSTED, t);
+    }
+    if out.len() < 8 {
+        return refused(lent::SHORT_BUFFER, t);
+    }
+    lent::lend_word(host::given_out(ready_key(t)), out);
+    let serial = t.serial;
+    let counter = t.counter;
+    NextKey {
+        number: lent::DONE,
+        counter,
+        serial: host::with_counter(&serial, counter),
+        terminal: after_key(t),
+    }
+}

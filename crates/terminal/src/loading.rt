@@ -1,0 +1,60 @@
+// Loading a terminal.
+use crate::registers_of::filled_from;
+use crate::state::Terminal;
+ghost use mathlib.Core.Path.{_≡_};
+ghost use Rattle.lent.specs.Numbers.{size};
+ghost use Rattle.terminal.specs.Record.{zeroRecord};
+ghost use Rattle.terminal.specs.Promises.{Load};
+
+// The answer of a loading: 0 and the record, or the refusal's number and the all-zero record.
+pub struct Loaded {
+    pub number: u8,
+    pub terminal: Terminal,
+}
+
+// The refusal of a loading.
+fn refused() -> Loaded
+    ensures { λ r. ⌜ r ≡ record { number = size; terminal = zeroRecord } ⌝ }
+{
+    Loaded {
+        number: lent::SIZE,
+        terminal: Terminal {
+            keys: [0u64; 21],
+            filled: 0,
+            serial: [0u8; 10],
+            counter: 0,
+            exhausted: false,
+        },
+    }
+}
+
+// Loads a terminal with an initial key and a serial number, whose counter is cleared: 6 where the key has not 8 bytes or the serial number
+// not 10. Counter 1 is next. A refusal answers the all-zero record.
+pub fn load(initial: &[u8], serial: &[u8]) -> Loaded
+    ensures { λ r. ⌜ Load (now (initial .entry)) (now (serial .entry)) r ⌝ }
+{
+    if initial.len() != 8 {
+        return refused();
+    }
+    if serial.len() != 10 {
+        return refused();
+    }
+    let empty = [0u64; 21];
+    let keys = filled_from(
+        empty,
+        21,
+        lent::word_of(initial),
+        host::cleared_tail(serial),
+        0,
+    );
+    Loaded {
+        number: lent::DONE,
+        terminal: Terminal {
+            keys,
+            filled: registers::filled_mask(1),
+            serial: host::with_counter(serial, 0),
+            counter: 1,
+            exhausted: false,
+        },
+    }
+}
