@@ -2,8 +2,7 @@
 use mathlib.Core.List.{List}
 use Prim.Native.Nat.{ℕ, _*_, _/_}
 use lib.Bits.{bitXor}
-use lib.ListN.{drop}
-use Rattle.lent.specs.Words.{word}
+use Rattle.lent.specs.Words.{word, left, right}
 use Rattle.cipher.specs.Des.{encrypted}
 use Rattle.cipher.specs.Triple.{tripleEncrypted}
 use Rattle.registers.specs.RegisterKey.{registerKey}
@@ -15,7 +14,7 @@ oneWay key block = bitXor (encrypted key (bitXor block key)) key
 
 -- the initial key: triple DES of the serial number's first eight bytes with the low five bits cleared
 unfoldable pub initialKeyOf : List ℕ → List ℕ → ℕ
-initialKeyOf derivation serial = tripleEncrypted (word derivation) (word (drop 8 derivation)) (word serial / 32 * 32)
+initialKeyOf derivation serial = tripleEncrypted (left derivation) (right derivation) (word serial / 32 * 32)
 
 -- the key given out: the register key with FF exclusive-or'd into its last byte
 unfoldable pub givenOut : ℕ → ℕ

@@ -4,11 +4,11 @@ use mathlib.Core.List.{List}
 use mathlib.Core.Logic.{ite}
 use Prim.Native.Nat.{ℕ}
 use lib.Dec.{eqb}
-use lib.ListN.{length, drop}
+use lib.ListN.{length}
 use Rattle.lent.specs.Choice.{both}
 use Rattle.lent.specs.Numbers.{size, equalHalves, badCounter}
 use Rattle.lent.specs.Result.{Result, done, require}
-use Rattle.lent.specs.Words.{word, wordBytes}
+use Rattle.lent.specs.Words.{left, right, wordBytes}
 use Rattle.registers.specs.Counters.{permitted?}
 use Rattle.host.specs.SerialNumber.{counterOf}
 use Rattle.host.specs.Derivation.{initialKeyOf, hostKeyOf}
@@ -19,7 +19,7 @@ sized derivation serial = both (eqb (length derivation) 16) (eqb (length serial)
 
 -- the halves of a derivation key are the same eight bytes
 abbrev pub sameHalves : List ℕ → Bool
-sameHalves derivation = eqb (word derivation) (word (drop 8 derivation))
+sameHalves derivation = eqb (left derivation) (right derivation)
 
 -- the result for a derivation key and a serial number that are not refused
 unfoldable pub accepted : List ℕ → List ℕ → Result (List ℕ) → Result (List ℕ)

@@ -1,4 +1,5 @@
 -- Laws of key entry: a key's hexadecimal text gives the key back, and an accepted text is the text of the key that it gives.
+pub use Rattle.keyentry.proofs.Sizes.{key-size-le}
 use borrow.Author.Tests.{eq-eqb, eqb-true}
 use mathlib.Core.Path.{_≡_, sym, ap, _∙_}
 use mathlib.Core.Bool.{true}

@@ -1,4 +1,5 @@
 -- Laws on results, and on what a call left in lent memory.
+use borrow.Author.Tests.{ne-eqb}
 use mathlib.Core.Path.{_≡_, refl, sym, ap, _∙_}
 use mathlib.Core.Bool.{Bool, true, false}
 use mathlib.Core.List.{List}
@@ -7,7 +8,7 @@ use native.Mathlib.Omega.{arith}
 use lib.ListN.{length, take, drop, length-append}
 use lib.Seq.{take-append-seam}
 use Rattle.lent.proofs.Laws.{never}
-use Rattle.lent.specs.Result.{Result, done, refused, number, require, andThen, bytes, lend, over, Answered, Written}
+use Rattle.lent.specs.Result.{Result, done, refused, number, require, andThen, bytes, answerOf, lend, over, Answered, Written}
 
 module _ {A : Type 0} where
   -- an answer whose number is not 0 is that refusal
@@ -50,6 +51,12 @@ require-numbered false n p h = λ e. let z : n ≡ 0 = cc in omega arith
 pub then-numbered : {A B : Type 0} (r : Result A) (f : A → Result B) → Numbered r → ((a : A) → Numbered (f a)) → Numbered (andThen r f)
 then-numbered (done a) f h k = k a
 then-numbered (refused n) f h k = λ e. let z : n ≡ 0 = cc in h (ap refused z)
+
+-- an answer by value says which result it is
+pub answer-of : (n : ℕ) (answer : Result (List ℕ)) {num : ℕ} {val : List ℕ} → Numbered answer → Answered n answer num val → answerOf num val ≡ answer
+unfolding answerOf
+answer-of n (done b) p a = rw (a .number, a .value)
+answer-of n (refused k) p a = rw (a .number, ne-eqb k 0 (λ z. p (ap refused z)))
 
 -- an answer by value whose number is 0 is its value
 pub answered-done : (n : ℕ) (answer : Result (List ℕ)) {num : ℕ} {val : List ℕ} → Numbered answer → Answered n answer num val → num ≡ 0 → answer ≡ done val

@@ -3,7 +3,7 @@ use mathlib.Core.Path.{_≡_}
 use mathlib.Core.Bool.{Bool}
 use mathlib.Core.List.{List, [], _++_}
 use Prim.Native.Nat.{ℕ}
-use lib.Dec.{leb}
+use lib.Dec.{leb, eqb}
 use lib.ListN.{length, drop, replicate}
 use Rattle.lent.specs.Choice.{pick}
 use Rattle.lent.specs.Numbers.{shortBuffer}
@@ -36,6 +36,10 @@ bytes (refused n) = []
 abbrev pub fixed : ℕ → Result (List ℕ) → List ℕ
 fixed n (done b) = b
 fixed n (refused k) = replicate n 0
+
+-- The result that an answer by value stands for.
+unfoldable pub answerOf : ℕ → List ℕ → Result (List ℕ)
+answerOf num value = pick (eqb num 0) (done value) (refused num)
 
 -- A done value that is longer than the room lent for it is refused.
 abbrev pub lend : ℕ → Result (List ℕ) → Result (List ℕ)

@@ -10,7 +10,7 @@ use Rattle.lent.specs.CardNumbers.{cardSize}
 use Rattle.lent.specs.Characters.{digit}
 use Rattle.lent.specs.Choice.{all}
 use Rattle.lent.specs.Numbers.{size, character}
-use Rattle.lent.specs.Result.{Result, done, refused, Answered, Written}
+use Rattle.lent.specs.Result.{Result, refused, Written}
 use Rattle.lent.specs.Words.{word, wordBytes}
 use Rattle.lent.specs.declared.answers.Length.{Length}
 use Rattle.lent.proofs.Results.{refused-written, Numbered, done-numbered, require-numbered}
@@ -18,13 +18,6 @@ use Rattle.pinblock.specs.CardNumber.{pinBlockWithCard}
 use Rattle.pinblock.specs.Enciphering.{keySize, deciphered}
 use Rattle.pinblock.specs.Entries.{blockSize, make, makeWithCard, clearBlock}
 use Rattle.pinblock.specs.Pin.{pinSize, pinBlock}
-use Rattle.pinblock.specs.Private.{answerOf}
-
--- an answer by value says which result it is
-pub answer-of : (n : ℕ) (answer : Result (List ℕ)) {num : ℕ} {val : List ℕ} → Numbered answer → Answered n answer num val → answerOf num val ≡ answer
-unfolding answerOf
-answer-of n (done b) p a = rw (a .number, a .value)
-answer-of n (refused k) p a = rw (a .number, ne-eqb k 0 (λ z. p (ap refused z)))
 
 -- a refusal leaves no length, and lent memory as it was
 pub refused-length : {answer : Result (List ℕ)} {before : List ℕ} (r : Length) {n : ℕ}

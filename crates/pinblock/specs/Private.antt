@@ -5,8 +5,7 @@ use Prim.Native.Nat.{ℕ, _+_}
 use lib.Dec.{eqb, ltb}
 use lib.ListN.{getD}
 use lib.Seq.{slice}
-use Rattle.lent.specs.Choice.{both, between, all, pick}
-use Rattle.lent.specs.Result.{Result, done, refused}
+use Rattle.lent.specs.Choice.{both, between, all}
 
 -- a half-byte is a number below 16
 abbrev pub halfByte : ℕ → Bool
@@ -19,7 +18,3 @@ wellFormed h =
     (both (between 4 12 (getD h 1 0))
     (both (all (between 0 9) (slice 2 (2 + getD h 1 0) h))
     (all (between 15 15) (slice (2 + getD h 1 0) 16 h))))
-
--- the result that an answer of fixed size stands for
-unfoldable pub answerOf : ℕ → List ℕ → Result (List ℕ)
-answerOf number value = pick (eqb number 0) (done value) (refused number)

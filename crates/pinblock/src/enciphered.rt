@@ -5,10 +5,9 @@ use crate::reading::read;
 use crate::reading::read_with_card;
 ghost use mathlib.Core.Path.{_≡_};
 ghost use mathlib.Core.Bool.{true};
-ghost use Rattle.lent.specs.Result.{Answered, Written};
+ghost use Rattle.lent.specs.Result.{Answered, Written, answerOf};
 ghost use Rattle.pinblock.specs.Enciphering.{keySize, enciphered, deciphered};
 ghost use Rattle.pinblock.specs.Entries;
-ghost use Rattle.pinblock.specs.Private.{answerOf};
 
 // Whether a key has 8 or 16 bytes.
 fn key_sized(key: &[u8]) -> bool

@@ -1,7 +1,8 @@
 -- `pinblock::enciphered::encipher` meets its contract.
 use borrow.Author.Needs.{needs}
+use Rattle.lent.proofs.Results.{answer-of}
 use Rattle.pinblock.specs.Entries.{encipher}
-use Rattle.pinblock.proofs.Answers.{answer-of, make-numbered}
+use Rattle.pinblock.proofs.Answers.{make-numbered}
 use Rattle.pinblock.proofs.enciphered.encipher.Statement.{statement}
 use Rattle.pinblock.proofs.enciphered.encipher.Tie as tie
 

@@ -3,9 +3,9 @@ use borrow.Author.Needs.{needs}
 use borrow.Author.Tests.{eq-eqb, ne-eqb, not-true, not-false}
 use mathlib.Core.Path.{_≡_, sym, _∙_}
 use mathlib.Core.Bool.{true}
+use Rattle.lent.specs.Result.{answerOf}
 use Rattle.pinblock.specs.Enciphering.{keySize}
 use Rattle.pinblock.specs.Entries.{underKey}
-use Rattle.pinblock.specs.Private.{answerOf}
 use Rattle.pinblock.proofs.enciphered.under_key.Statement.{statement}
 use Rattle.pinblock.proofs.enciphered.under_key.Tie as tie
 

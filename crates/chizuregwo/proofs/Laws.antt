@@ -1,0 +1,273 @@
+-- What other crates and readers cite: a record's bytes and the record give each other back, bytes are a valid record exactly if they are those of
+-- one, any other 187 bytes are 11, exactly one number applies to a call, and a call in bytes is a call of `next_key`.
+use mathlib.Core.Path.{_≡_, refl, sym, ap, _∙_}
+use mathlib.Core.Bool.{Bool, true, false, false≢true}
+use mathlib.Core.Logic.{_⊎_, inl, inr, _↔_, Dec·and}
+use mathlib.Core.List.{List, [], _∷_, _++_, append-assoc}
+use Prim.Native.Nat.{ℕ, _^_, _≤_, _<_}
+use native.Mathlib.Decide.{decLt, decLe, ℕ-discrete, map-dec}
+use native.Mathlib.Omega.{arith}
+use lib.Dec.{eqb}
+use lib.ListN.{length, getD, take, drop, replicate, length-append, length-drop, take-append-drop, drop-of-length-le}
+use lib.Seq.{take-at, drop-at, getD-at, take-add, drop-cons, length-take-le}
+use Rattle.lent.specs.Choice.{pick}
+use Rattle.lent.specs.Numbers as numbers
+use Rattle.lent.specs.Result.{over}
+use Rattle.lent.proofs.Bases.{Digits, to-length}
+use Rattle.registers.specs.Rule.{Running, Stopped}
+use Rattle.host.specs.SerialNumber.{withCounter}
+use Rattle.terminal.specs.Record.{dukpt, view, ValidRecord, afterKey}
+use Rattle.terminal.specs.Promises.{NextNumber, onDone, Next}
+use Rattle.terminal.specs.Promises as promises
+use Rattle.terminal.specs.declared.state.Terminal.{Terminal}
+use Rattle.terminal.specs.declared.calls.NextKey.{NextKey}
+use Rattle.terminal.proofs.Laws.{valid?}
+use Rattle.chizuregwo.specs.RecordBytes.{recordSize, registerBytes, numberBytes, exhaustedByte, recordBytes, Fits, registersOf, numberOf, terminalOf, ValidBytes}
+use Rattle.chizuregwo.specs.Calls.{CallNumber, wrong-size, invalid, exhausted, short, given, Called}
+use Rattle.chizuregwo.proofs.Bytes.{number-back, bytes-back-at, register-length, registers-back, register-bytes-back, registers-length, registers-lt, number-lt, exhausted-back, exhausted-le, exhausted-byte-back}
+
+-- ---- writing, then reading
+
+module _ (t : Terminal) (fits : Fits t) where
+  -- the bytes up to each part
+  upFilled : List ℕ
+  upFilled = registerBytes (t .keys) ++ numberBytes (t .filled)
+
+  upSerial : List ℕ
+  upSerial = upFilled ++ t .serial
+
+  upCounter : List ℕ
+  upCounter = upSerial ++ numberBytes (t .counter)
+
+  last : List ℕ
+  last = exhaustedByte (t .exhausted) ∷ []
+
+  registers-168 : length (registerBytes (t .keys)) ≡ 168
+  registers-168 = register-length (t .keys) ∙ omega (arith, fits .registers)
+
+  filled-172 : length upFilled ≡ 172
+  unfolding upFilled
+  filled-172 = length-append (registerBytes (t .keys)) (numberBytes (t .filled)) ∙ omega (arith, registers-168, to-length 256 4 (t .filled))
+
+  serial-182 : length upSerial ≡ 182
+  unfolding upSerial
+  serial-182 = length-append upFilled (t .serial) ∙ omega (arith, filled-172, fits .serial)
+
+  counter-186 : length upCounter ≡ 186
+  unfolding upCounter
+  counter-186 = length-append upSerial (numberBytes (t .counter)) ∙ omega (arith, serial-182, to-length 256 4 (t .counter))
+
+  -- the bytes from each part on
+  after-counter : recordBytes t ≡ upCounter ++ last
+  unfolding recordBytes upCounter upSerial upFilled last
+  after-counter = refl
+
+  after-serial : recordBytes t ≡ upSerial ++ (numberBytes (t .counter) ++ last)
+  unfolding upCounter
+  after-serial = after-counter ∙ append-assoc upSerial (numberBytes (t .counter)) last
+
+  after-filled : recordBytes t ≡ upFilled ++ (t .serial ++ (numberBytes (t .counter) ++ last))
+  unfolding upSerial
+  after-filled = after-serial ∙ append-assoc upFilled (t .serial) (numberBytes (t .counter) ++ last)
+
+  after-registers : recordBytes t ≡ registerBytes (t .keys) ++ (numberBytes (t .filled) ++ (t .serial ++ (numberBytes (t .counter) ++ last)))
+  unfolding upFilled
+  after-registers = after-filled ∙ append-assoc (registerBytes (t .keys)) (numberBytes (t .filled)) (t .serial ++ (numberBytes (t .counter) ++ last))
+
+  -- a record has 187 bytes
+  pub written-length : length (recordBytes t) ≡ recordSize
+  unfolding last
+  written-length = ap length after-counter ∙ length-append upCounter last ∙ omega (arith, counter-186)
+
+  exhausted-at : getD (recordBytes t) 186 0 ≡ exhaustedByte (t .exhausted)
+  unfolding last
+  exhausted-at = ap (λ (s : List ℕ). getD s 186 0) after-counter ∙ getD-at upCounter _ [] 0 186 counter-186
+
+  keys-back : registersOf 21 (recordBytes t) ≡ t .keys
+  keys-back =
+      ap (registersOf 21) after-registers
+      ∙ (rw (fits .registers) at (registers-back (t .keys) (numberBytes (t .filled) ++ (t .serial ++ (numberBytes (t .counter) ++ last))) (fits .words)))
+
+  filled-back : numberOf (drop 168 (recordBytes t)) ≡ t .filled
+  filled-back =
+      ap (λ (s : List ℕ). numberOf (drop 168 s)) after-registers
+      ∙ ap numberOf (drop-at (registerBytes (t .keys)) _ 168 registers-168)
+      ∙ number-back 4 (t .filled) _ (fits .filled)
+
+  serial-back : take 10 (drop 172 (recordBytes t)) ≡ t .serial
+  serial-back =
+      ap (λ (s : List ℕ). take 10 (drop 172 s)) after-filled
+      ∙ ap (take 10) (drop-at upFilled _ 172 filled-172)
+      ∙ take-at (t .serial) _ 10 (fits .serial)
+
+  counter-back : numberOf (drop 182 (recordBytes t)) ≡ t .counter
+  counter-back =
+      ap (λ (s : List ℕ). numberOf (drop 182 s)) after-serial
+      ∙ ap numberOf (drop-at upSerial _ 182 serial-182)
+      ∙ number-back 4 (t .counter) last (fits .counter)
+
+  -- what was written is read back
+  pub read-written : terminalOf (recordBytes t) ≡ t
+  unfolding terminalOf
+  read-written = rw (keys-back, filled-back, serial-back, counter-back, exhausted-at, exhausted-back (t .exhausted))
+
+  -- the bytes of a record that hangs together are valid
+  pub written-valid : ValidRecord t → ValidBytes (recordBytes t)
+  written-valid ok = record { exhausted-byte = rw exhausted-at (exhausted-le (t .exhausted)); hangs-together = rw read-written ok }
+
+-- a record that hangs together fits its types where its keys are words and its serial number has 10 bytes
+pub valid-fits : (t : Terminal) → ValidRecord t → ((b : ℕ) → getD (t .keys) b 0 < 2 ^ 64) → length (t .serial) ≡ 10 → Fits t
+valid-fits t ok words ten = go (ok .state)
+  where
+    go : Running dukpt (view t) ⊎ Stopped dukpt (view t) → Fits t
+    go (inl run) = record { registers = run .size; words = words; filled = omega (arith, run .narrow); serial = ten; counter = omega (arith, run .permitted .fits) }
+    go (inr stop) = record { registers = stop .size; words = words; filled = omega (arith, stop .unfilled); serial = ten; counter = omega (arith, stop .none) }
+
+-- ---- reading, then writing
+
+module _ (s : List ℕ) (long : length s ≡ recordSize) (d : Digits 256 s) where
+  -- what was read is written back
+  pub written-read : getD s 186 0 ≤ 1 → recordBytes (terminalOf s) ≡ s
+  unfolding recordBytes terminalOf
+  written-read h =
+      let end : drop 186 s ≡ getD s 186 0 ∷ [] = drop-cons s 186 0 (omega arith) ∙ ap (λ (x : List ℕ). getD s 186 0 ∷ x) (drop-of-length-le s {i = 187} (omega arith)) in
+      rw (
+        register-bytes-back 21 s (omega arith) d,
+        bytes-back-at 168 4 s (omega arith) d,
+        bytes-back-at 182 4 s (omega arith) d,
+        exhausted-byte-back (getD s 186 0) h,
+        ← take-add 168 4 s,
+        ← take-add 172 10 s,
+        ← take-add 182 4 s,
+        ← end,
+      )
+      (take-append-drop 186 s)
+
+  -- what is read fits its types
+  pub read-fits : Fits (terminalOf s)
+  unfolding terminalOf
+  read-fits = record {
+    registers = registers-length 21 s;
+    words = registers-lt 21 s d;
+    filled = number-lt 168 s d;
+    serial = length-take-le 10 (drop 172 s) (omega (arith, length-drop 172 s));
+    counter = number-lt 182 s d;
+  }
+
+  -- 187 bytes are a valid record exactly if they are the bytes of one
+  pub valid-bytes : ValidBytes s ↔ ((t : Terminal) × Fits t × ValidRecord t × (recordBytes t ≡ s))
+  valid-bytes = (
+    λ v. (terminalOf s, read-fits, v .hangs-together, written-read (v .exhausted-byte)),
+    λ h. rw (h .3) at (written-valid (h .0) (h .1) (h .2)),
+  )
+
+-- ---- the number of a call
+
+roomy : {k m : ℕ} → (k < 8) ⊎ (m < 10) → 8 ≤ k → 10 ≤ m → ⊥
+roomy (inl h) i j = omega arith
+roomy (inr h) i j = omega arith
+
+module _ (s : List ℕ) where
+  valid-bytes? : Dec (ValidBytes s)
+  valid-bytes? =
+      map-dec (λ h. record { exhausted-byte = h .0; hangs-together = h .1 }) (λ v. (v .exhausted-byte, v .hangs-together))
+      (Dec·and (decLe (getD s 186 0) 1) (valid? (terminalOf s)))
+
+  module _ (keyRoom serialRoom : ℕ) where
+    -- a number applies
+    pub some-number : (n : ℕ) × CallNumber s keyRoom serialRoom n
+    some-number = go (ℕ-discrete (length s) recordSize) valid-bytes? (terminalOf s .exhausted) refl (decLt keyRoom 8) (decLt serialRoom 10)
+      where
+        go : Dec (length s ≡ recordSize) → Dec (ValidBytes s) → (b : Bool) → terminalOf s .exhausted ≡ b → Dec (keyRoom < 8) → Dec (serialRoom < 10)
+            → (n : ℕ) × CallNumber s keyRoom serialRoom n
+        go (no l) v b e k m = (_, wrong-size l)
+        go (yes l) (no v) b e k m = (_, invalid l v)
+        go (yes l) (yes v) true e k m = (_, exhausted l v e)
+        go (yes l) (yes v) false e (yes k) m = (_, short l v e (inl k))
+        go (yes l) (yes v) false e (no k) (yes m) = (_, short l v e (inr m))
+        go (yes l) (yes v) false e (no k) (no m) = (_, given l v e (omega arith) (omega arith))
+
+    -- and no other does
+    pub one-number : {m n : ℕ} → CallNumber s keyRoom serialRoom m → CallNumber s keyRoom serialRoom n → m ≡ n
+    one-number (wrong-size l) (wrong-size k) = refl
+    one-number (wrong-size l) (invalid k v) = absurd (l k)
+    one-number (wrong-size l) (exhausted k v e) = absurd (l k)
+    one-number (wrong-size l) (short k v e h) = absurd (l k)
+    one-number (wrong-size l) (given k v e h i) = absurd (l k)
+    one-number (invalid k v) (wrong-size l) = absurd (l k)
+    one-number (invalid k v) (invalid l w) = refl
+    one-number (invalid k v) (exhausted l w e) = absurd (v w)
+    one-number (invalid k v) (short l w e h) = absurd (v w)
+    one-number (invalid k v) (given l w e h i) = absurd (v w)
+    one-number (exhausted k v e) (wrong-size l) = absurd (l k)
+    one-number (exhausted k v e) (invalid l w) = absurd (w v)
+    one-number (exhausted k v e) (exhausted l w f) = refl
+    one-number (exhausted k v e) (short l w f h) = absurd (false≢true (sym f ∙ e))
+    one-number (exhausted k v e) (given l w f h i) = absurd (false≢true (sym f ∙ e))
+    one-number (short k v e h) (wrong-size l) = absurd (l k)
+    one-number (short k v e h) (invalid l w) = absurd (w v)
+    one-number (short k v e h) (exhausted l w f) = absurd (false≢true (sym e ∙ f))
+    one-number (short k v e h) (short l w f i) = refl
+    one-number (short k v e h) (given l w f i j) = absurd (roomy h i j)
+    one-number (given k v e i j) (wrong-size l) = absurd (l k)
+    one-number (given k v e i j) (invalid l w) = absurd (w v)
+    one-number (given k v e i j) (exhausted l w f) = absurd (false≢true (sym e ∙ f))
+    one-number (given k v e i j) (short l w f h) = absurd (roomy h i j)
+    one-number (given k v e i j) (given l w f h g) = refl
+
+-- any other 187 bytes are refused with 11, and nothing is changed
+pub other-bytes : (s key serial sAfter keyAfter serialAfter : List ℕ) (num len : ℕ) → Called s key serial num len sAfter keyAfter serialAfter
+    → length s ≡ recordSize → ¬ ValidBytes s
+    → (num ≡ numbers.badRecord) × (len ≡ 0) × (sAfter ≡ s) × (keyAfter ≡ key) × (serialAfter ≡ serial)
+other-bytes s key serial sAfter keyAfter serialAfter num len call long bad =
+    let e = one-number s (length key) (length serial) (call .number) (invalid long bad) in
+    (e, rw e at (call .value), rw e at (call .state), rw e at (call .key-memory), rw e at (call .serial-memory))
+
+-- ---- a call in bytes is a call of `next_key`
+
+pick-ap : (b : Bool) {A B : Type 0} (f : A → B) (x y : A) → pick b (f x) (f y) ≡ f (pick b x y)
+pick-ap true f x y = refl
+pick-ap false f x y = refl
+
+pick-over : (b : Bool) (x y s : List ℕ) → pick b (over x s) s ≡ pick b (over (pick b x y) s) s
+pick-over true x y s = refl
+pick-over false x y s = refl
+
+-- With the bytes of a record t that fits its types and a serial buffer of at least 10, the call is one of `next_key` with t: the number is its
+-- answer's, the key buffer its buffer, and the bytes left those of the record that it returns. So demand 3 holds of such calls too.
+pub record IsNext (t : Terminal) (key serial : List ℕ) (num : ℕ) (sAfter keyAfter serialAfter : List ℕ) : Type 0 where
+  pub answer : NextKey
+  pub promise : Next t key answer keyAfter
+  pub number : num ≡ answer .number
+  pub state : sAfter ≡ recordBytes (answer .terminal)
+  pub serial-number : serialAfter ≡ onDone num (over (answer .serial) serial) serial
+
+pub called-next : (t : Terminal) → Fits t → (key serial sAfter keyAfter serialAfter : List ℕ) (num len : ℕ)
+    → Called (recordBytes t) key serial num len sAfter keyAfter serialAfter → 10 ≤ length serial → IsNext t key serial num sAfter keyAfter serialAfter
+called-next t fits key serial sAfter keyAfter serialAfter num len call long = record {
+  answer = answer;
+  promise = record { number = numbered num (call .number); counter = refl; serial = refl; terminal = refl; memory = rw back at (call .key-memory) };
+  number = refl;
+  state = rw back at (call .state) ∙ pick-ap (eqb num 0) recordBytes (afterKey t) t;
+  serial-number = rw back at (call .serial-memory) ∙ pick-over (eqb num 0) (withCounter (t .serial) (t .counter)) (replicate 10 0) serial;
+}
+  where
+    back : terminalOf (recordBytes t) ≡ t
+    back = read-written t fits
+
+    answer : NextKey
+    answer =
+        record {
+          number = num;
+          counter = onDone num (t .counter) 0;
+          serial = onDone num (withCounter (t .serial) (t .counter)) (replicate 10 0);
+          terminal = onDone num (afterKey t) t;
+        }
+
+    numbered : (n : ℕ) → CallNumber (recordBytes t) (length key) (length serial) n → NextNumber t (length key) n
+    numbered n (wrong-size l) = absurd (l (written-length t fits))
+    numbered n (invalid l v) = promises.invalid (λ ok. v (written-valid t fits ok))
+    numbered n (exhausted l v e) = promises.exhausted (rw back at (v .hangs-together)) (rw back at e)
+    numbered n (short l v e (inl h)) = promises.short (rw back at (v .hangs-together)) (rw back at e) h
+    numbered n (short l v e (inr h)) = absurd (omega arith)
+    numbered n (given l v e h i) = promises.given (rw back at (v .hangs-together)) (rw back at e) h

@@ -1,0 +1,21 @@
+-- `chizuregwo::messages::czg_text_mac` meets its contract.
+use borrow.Author.Needs.{needs}
+use Rattle.chizuregwo.proofs.AnswerLaws.{lent-as}
+use Rattle.chizuregwo.proofs.Refusals.{text-mac-numbered}
+use Rattle.chizuregwo.proofs.messages.czg_text_mac.Statement.{statement}
+use Rattle.chizuregwo.proofs.messages.czg_text_mac.Tie as tie
+
+text-mac-requires : tie.Need-text-mac-requires
+text-mac-requires c κs = search needs
+
+lend-block-requires : tie.Need-lend-block-requires
+lend-block-requires c κs = search needs
+
+same-length : tie.Need-same-length
+same-length c = search needs
+
+returns : tie.Need-returns
+returns c = lent-as 8 (text-mac-numbered _ _) (c .before .before .before .before .text-mac .ensures) (c .before .before .lend-block .ensures)
+
+pub czg-text-mac-spec : {M : Type 1} → statement M
+czg-text-mac-spec = tie.close (tie.spec text-mac-requires lend-block-requires same-length returns)

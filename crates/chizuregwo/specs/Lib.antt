@@ -1,0 +1,4 @@
+pub mod Ciphers
+pub mod RecordBytes
+pub mod Calls
+pub mod Private

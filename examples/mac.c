@@ -1,0 +1,80 @@
+/*
+ * mac [FILE]: the MAC text and the MAC of one message, and a PIN block. FILE holds eight bytes of MAC key and then the
+ * message; without it they come from standard input. Ends with status 1 after a refusal.
+ *
+ *   cc -I build -o mac examples/mac.c build/libchizuregwo.a
+ */
+#include <stdio.h>
+#include <string.h>
+
+#include "chizuregwo.h"
+
+/* What each number means. */
+static const char *const meanings[] = {
+    "done",
+    "message empty, or a record is cut short",
+    "first field is not 0, a field number is above 192, or not above the one before",
+    "message type does not start with 01, 02, 04 or 05",
+    "a listed field has the wrong length or characters",
+    "MAC asked over a text that is empty after cleaning",
+    "a length or size is outside its range",
+    "a character is not a digit, or not hexadecimal, where one is asked",
+    "a PIN block comes from no permitted PIN",
+    "the two halves of a derivation key are the same 8 bytes",
+    "host counter is 0 or has more than ten one bits",
+    "terminal state does not hang together",
+    "terminal exhausted",
+    "lent buffer shorter than the result",
+};
+
+/* Whether an entry was done; if not, prints what was refused and why. */
+static int done(const char *what, czg_answer answer)
+{
+    if (answer.number != CZG_DONE)
+        printf("%s: refused %u: %s\n", what, (unsigned)answer.number, meanings[answer.number]);
+    return answer.number == CZG_DONE;
+}
+
+/* Prints bytes as capital hexadecimal digits. */
+static void print_hex(const char *what, const uint8_t *bytes, size_t size)
+{
+    printf("%s ", what);
+    for (size_t i = 0; i < size; i++)
+        printf("%02X", bytes[i]);
+    printf("\n");
+}
+
+int main(int argc, char **argv)
+{
+    static const uint8_t pin[] = "1234", card[] = "4219876543210987";
+    /* One byte more than a key and the longest message, so that a longer message is seen as one. */
+    static uint8_t input[CZG_KEY_SIZE + CZG_MOST_MESSAGE + 1];
+    uint8_t text[CZG_MOST_MESSAGE_TEXT], mac[CZG_BLOCK_SIZE], block[CZG_BLOCK_SIZE];
+
+    FILE *file = argc > 1 ? fopen(argv[1], "rb") : stdin;
+    if (file == NULL) {
+        perror(argv[1]);
+        return 2;
+    }
+    size_t size = fread(input, 1, sizeof input, file);
+    size_t key_size = size < CZG_KEY_SIZE ? size : CZG_KEY_SIZE;
+    const uint8_t *message = input + key_size;
+    size_t message_size = size - key_size;
+
+    /* The MAC first: it refuses a short key, and all that the text refuses. */
+    czg_answer answer = czg_message_mac(input, key_size, message, message_size, mac, sizeof mac);
+    if (!done("mac", answer))
+        return 1;
+    answer = czg_message_text(message, message_size, text, sizeof text);
+    if (!done("text", answer))
+        return 1;
+    printf("text %.*s\n", (int)answer.length, (const char *)text);
+    print_hex("mac", mac, sizeof mac);
+
+    answer = czg_pin_encipher_with_card(pin, strlen((const char *)pin), card, strlen((const char *)card),
+                                        input, key_size, block, sizeof block);
+    if (!done("pin block", answer))
+        return 1;
+    print_hex("pin block", block, answer.length);
+    return 0;
+}

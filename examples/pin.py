@@ -1,0 +1,70 @@
+#!/usr/bin/env python3
+"""PIN blocks and a terminal's first keys through build/libchizuregwo.so (make shared), by ctypes alone.
+
+    examples/pin.py [PIN [CARD]]
+"""
+import ctypes
+import pathlib
+import sys
+
+CZG_DONE, CZG_RECORD_SIZE = 0, 187
+
+
+class Answer(ctypes.Structure):
+    """What every entry answers."""
+
+    _fields_ = [("number", ctypes.c_uint32), ("length", ctypes.c_uint32)]
+
+
+library = ctypes.CDLL(str(pathlib.Path(__file__).resolve().parent.parent / "build" / "libchizuregwo.so"))
+
+
+def call(entry, *inputs, room):
+    """Calls an entry on some bytes and numbers; gives the bytes that it wrote, or ends with the refusal's number."""
+    arguments = []
+    for given in inputs:
+        if isinstance(given, bytes):
+            arguments += [ctypes.c_char_p(given), ctypes.c_size_t(len(given))]
+        else:
+            arguments.append(given)
+    out = ctypes.create_string_buffer(room)
+    function = getattr(library, entry)
+    function.restype = Answer
+    answer = function(*arguments, out, ctypes.c_size_t(room))
+    if answer.number != CZG_DONE:
+        sys.exit(f"{entry}: refused {answer.number}")
+    return out.raw[: answer.length]
+
+
+def next_key(record):
+    """The terminal's next key and its serial number; the record is changed in place."""
+    key, serial = ctypes.create_string_buffer(8), ctypes.create_string_buffer(10)
+    function = library.czg_terminal_next_key
+    function.restype = Answer
+    sizes = [ctypes.c_size_t(size) for size in (CZG_RECORD_SIZE, 8, 10)]
+    answer = function(record, sizes[0], key, sizes[1], serial, sizes[2])
+    if answer.number != CZG_DONE:
+        sys.exit(f"czg_terminal_next_key: refused {answer.number}")
+    return key.raw, serial.raw
+
+
+pin = sys.argv[1] if len(sys.argv) > 1 else "1234"
+card = sys.argv[2] if len(sys.argv) > 2 else "4219876543210987"
+pin, card = pin.encode(), card.encode()
+key = call("czg_key_entry", b"0123456789abcdefFEDCBA9876543210", ctypes.c_size_t(16), room=16)
+print("clear block     ", call("czg_pin_make_with_card", pin, card, room=8).hex().upper())
+block = call("czg_pin_encipher_with_card", pin, card, key, room=8)
+print("enciphered block", block.hex().upper())
+print("PIN             ", call("czg_pin_decipher_with_card", block, card, key, room=12).decode())
+
+derivation_key = bytes.fromhex("51525457585B5D5E61626467686B6D6E")
+serial_number = bytes.fromhex("0123456789ABCDE00000")
+initial_key = call("czg_initial_key", derivation_key, serial_number, room=8)
+loaded = call("czg_terminal_load", initial_key, serial_number, room=CZG_RECORD_SIZE)
+record = ctypes.create_string_buffer(loaded, CZG_RECORD_SIZE)
+for _ in range(3):
+    given, serial = next_key(record)
+    host = call("czg_host_key", derivation_key, serial, room=8)
+    print("terminal key    ", given.hex().upper(), "serial number", serial.hex().upper(), "host", host.hex().upper())
+    if given != host:
+        sys.exit("the host has another key")

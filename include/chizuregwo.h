@@ -1,0 +1,271 @@
+/*
+ * chizuregwo.h: the cryptography of rented card terminals.
+ *
+ * DES and two-key triple DES, key entry, the MAC of a text and of an online message, PIN blocks, chip-card keys and
+ * cryptograms, and DUKPT on the host and in the terminal. C99 and C++. Link with libchizuregwo.a.
+ *
+ * Every entry has one shape: bytes lent to be read (a pointer and a size), bytes lent to be written (a pointer and a
+ * size), and an answer by value. No entry keeps a pointer, allocates, or holds any state between calls, so entries may
+ * be called from several threads at once.
+ *
+ * Done:    number is CZG_DONE and length says how many bytes were written, from the start of the buffer. The buffer's
+ *          bytes after these are left as they were.
+ * Refused: number is one of 1 to 13, length is 0, and NO BUFFER IS WRITTEN: every byte is left as it was.
+ *
+ * Where several refusals apply, the number given is the first in the order that stands with the entry. CZG_SHORT_BUFFER
+ * (13) is always the last.
+ *
+ * The caller sees to it that no pointer is null, even where its size is 0; that the bytes are there for the whole size;
+ * and that a buffer which is written overlaps no other buffer of the same call.
+ *
+ * The low bit of each key byte has no effect on the cipher. It is never checked or set.
+ */
+#ifndef CHIZUREGWO_H
+#define CHIZUREGWO_H
+
+#include <stddef.h>
+#include <stdint.h>
+
+#ifdef __cplusplus
+extern "C" {
+#endif
+
+/* The numbers an operator sees. */
+#define CZG_DONE 0          /* done */
+#define CZG_CUT_SHORT 1     /* message empty, or a record is cut short */
+#define CZG_FIELD_ORDER 2   /* first field is not 0, a field number is above 192, or not above the one before */
+#define CZG_MESSAGE_TYPE 3  /* message type does not start with 01, 02, 04 or 05 */
+#define CZG_FIELD_FORM 4    /* a listed field has the wrong length or characters */
+#define CZG_EMPTY_TEXT 5    /* MAC asked over a text that is empty after cleaning */
+#define CZG_SIZE 6          /* a length or size is outside its range */
+#define CZG_CHARACTER 7     /* a character is not a digit, or not hexadecimal, where one is asked */
+#define CZG_NO_SUCH_PIN 8   /* a PIN block comes from no permitted PIN */
+#define CZG_EQUAL_HALVES 9  /* the two halves of a derivation key are the same 8 bytes */
+#define CZG_COUNTER 10      /* host counter is 0 or has more than ten one bits */
+#define CZG_RECORD 11       /* terminal state does not hang together */
+#define CZG_EXHAUSTED 12    /* terminal exhausted */
+#define CZG_SHORT_BUFFER 13 /* lent buffer shorter than the result */
+
+/* Sizes in bytes, and ranges. */
+#define CZG_BLOCK_SIZE 8            /* a block, a MAC, a cryptogram, a PIN block */
+#define CZG_KEY_SIZE 8              /* a single-length key */
+#define CZG_DOUBLE_KEY_SIZE 16      /* a double-length key, left half first */
+#define CZG_SERIAL_NUMBER_SIZE 10   /* a serial number; its last 21 bits are the counter */
+#define CZG_RECORD_SIZE 187         /* a terminal's record */
+#define CZG_MOST_TEXT 1024          /* free text */
+#define CZG_MOST_MESSAGE 4096       /* a message */
+#define CZG_MOST_MESSAGE_TEXT 166   /* a message's MAC text */
+#define CZG_LEAST_PIN 4             /* digits of a PIN */
+#define CZG_MOST_PIN 12
+#define CZG_LEAST_CARD_NUMBER 13    /* digits of a card number */
+#define CZG_MOST_CARD_NUMBER 19
+#define CZG_MOST_CARD_SEQUENCE 99   /* card sequence number, from 0 */
+#define CZG_MOST_CRYPTOGRAM_DATA 255 /* bytes under an ARQC, from 1 */
+#define CZG_TERMINAL_KEYS 1048575   /* keys that a terminal gives from loading to exhaustion */
+
+/*
+ * A terminal's record, 187 bytes:
+ *
+ *   place  size
+ *   0      168   registers 0 to 20, 8 bytes each; register b belongs to the counter bit worth 2 to the power b
+ *   168    4     the filled mask, big-endian: bit b is 1 if register b is filled
+ *   172    10    the serial number with its counter bits zero
+ *   182    4     the counter to be given out next, big-endian; 0 if exhausted
+ *   186    1     1 if the terminal is exhausted, otherwise 0
+ *
+ * It holds keys: whoever keeps it keeps it secret. An older record handed in again gives old keys again.
+ */
+#define CZG_RECORD_REGISTERS 0
+#define CZG_RECORD_FILLED 168
+#define CZG_RECORD_SERIAL_NUMBER 172
+#define CZG_RECORD_COUNTER 182
+#define CZG_RECORD_EXHAUSTED 186
+
+/* What every entry answers. */
+typedef struct czg_answer {
+    uint32_t number; /* CZG_DONE or the refusal's number */
+    uint32_t length; /* bytes written; 0 on a refusal */
+} czg_answer;
+
+/* ---- The cipher ---- */
+
+/*
+ * Enciphers a block of 8 bytes: DES (FIPS 46-3) under a key of 8 bytes; triple DES under one of 16, which encrypts with
+ * the left half, decrypts with the right and encrypts with the left. Writes 8 bytes.
+ * Refusals: 6 (key, block), 13.
+ */
+czg_answer czg_encrypt(const uint8_t *key, size_t key_size, const uint8_t *block, size_t block_size,
+                       uint8_t *out, size_t out_size);
+
+/* Deciphers: undoes czg_encrypt under the same key. Writes 8 bytes. Refusals: 6 (key, block), 13. */
+czg_answer czg_decrypt(const uint8_t *key, size_t key_size, const uint8_t *block, size_t block_size,
+                       uint8_t *out, size_t out_size);
+
+/* ---- Key entry ---- */
+
+/*
+ * A key from hexadecimal text, letters of either case. bytes_wanted counts bytes and is 8 or 16; the text has exactly
+ * twice as many digits. Writes bytes_wanted bytes.
+ * Refusals: 6 (bytes wanted, text), 7, 13.
+ */
+czg_answer czg_key_entry(const uint8_t *text, size_t text_size, size_t bytes_wanted, uint8_t *out, size_t out_size);
+
+/* ---- Texts, messages and their MACs ---- */
+
+/*
+ * Cleans a text of 0 to 1,024 bytes: small letters become capitals; only A to Z, 0 to 9, space, comma and full stop stay;
+ * after that, spaces at both ends go and each run of spaces becomes one. Writes the cleaned text, which may be empty.
+ * Refusals: 6, 13.
+ */
+czg_answer czg_clean(const uint8_t *text, size_t text_size, uint8_t *out, size_t out_size);
+
+/*
+ * The MAC text of an online message of 1 to 4,096 bytes. A message is records: body length in two bytes, field number in
+ * two bytes, both little-endian, then the body. Present listed fields are joined in rising order with one space between
+ * (2, 32 and 33 with two digits of length before them, 90 by its first 20 digits), and the whole is cleaned. Writes at
+ * most 166 bytes.
+ * Refusals: 6; then records one at a time, each 1, 2, 4, 3; then 13. An empty message is 1.
+ */
+czg_answer czg_message_text(const uint8_t *message, size_t message_size, uint8_t *out, size_t out_size);
+
+/*
+ * The MAC of a free text of 0 to 1,024 bytes under a key of 8 bytes: the text is cleaned and filled with zero bytes to a
+ * multiple of 8; CBC-MAC from zero, all 8 bytes (ISO/IEC 9797-1, algorithm 1). Writes 8 bytes.
+ * Refusals: 6 (key, text), 5, 13.
+ */
+czg_answer czg_text_mac(const uint8_t *key, size_t key_size, const uint8_t *text, size_t text_size,
+                        uint8_t *out, size_t out_size);
+
+/*
+ * The MAC of a message under a key of 8 bytes: of its MAC text, as above. Writes 8 bytes.
+ * Refusals: 6 (key, message); then records one at a time, each 1, 2, 4, 3; then 13.
+ */
+czg_answer czg_message_mac(const uint8_t *key, size_t key_size, const uint8_t *message, size_t message_size,
+                           uint8_t *out, size_t out_size);
+
+/* ---- PIN blocks. A PIN is 4 to 12 text digits, a card number 13 to 19; a card number's last digit has no effect. ---- */
+
+/* Clear PIN block without card number: half-bytes 0, length, the digits, then F. Writes 8 bytes. Refusals: 6, 7, 13. */
+czg_answer czg_pin_make(const uint8_t *pin, size_t pin_size, uint8_t *out, size_t out_size);
+
+/*
+ * Clear PIN block with card number: that block, exclusive-or 0000 and the twelve rightmost digits leaving out the last
+ * (ISO 9564-1, format 0). Writes 8 bytes.
+ * Refusals: 6 (PIN, card number), 7 (PIN, card number), 13.
+ */
+czg_answer czg_pin_make_with_card(const uint8_t *pin, size_t pin_size, const uint8_t *card, size_t card_size,
+                                  uint8_t *out, size_t out_size);
+
+/* The PIN of a clear block of 8 bytes, as text digits: the PIN that makes the block. Refusals: 6, 8, 13. */
+czg_answer czg_pin_read(const uint8_t *block, size_t block_size, uint8_t *out, size_t out_size);
+
+/* The same with card number. Refusals: 6 (block, card number), 7, 8, 13. */
+czg_answer czg_pin_read_with_card(const uint8_t *block, size_t block_size, const uint8_t *card, size_t card_size,
+                                  uint8_t *out, size_t out_size);
+
+/*
+ * Enciphered PIN block without card number: the clear block under DES with a key of 8 bytes, under triple DES with one of
+ * 16. Writes 8 bytes.
+ * Refusals: 6 (PIN, key), 7, 13.
+ */
+czg_answer czg_pin_encipher(const uint8_t *pin, size_t pin_size, const uint8_t *key, size_t key_size,
+                            uint8_t *out, size_t out_size);
+
+/* The same with card number. Writes 8 bytes. Refusals: 6 (PIN, card number, key), 7 (PIN, card number), 13. */
+czg_answer czg_pin_encipher_with_card(const uint8_t *pin, size_t pin_size, const uint8_t *card, size_t card_size,
+                                      const uint8_t *key, size_t key_size, uint8_t *out, size_t out_size);
+
+/*
+ * The PIN of an enciphered block of 8 bytes, as text digits: deciphered under a key of 8 or 16 bytes and then read as a
+ * clear block.
+ * Refusals: 6 (block, key), 8, 13.
+ */
+czg_answer czg_pin_decipher(const uint8_t *block, size_t block_size, const uint8_t *key, size_t key_size,
+                            uint8_t *out, size_t out_size);
+
+/* The same with card number. Refusals: 6 (block, card number, key), 7, 8, 13. */
+czg_answer czg_pin_decipher_with_card(const uint8_t *block, size_t block_size, const uint8_t *card, size_t card_size,
+                                      const uint8_t *key, size_t key_size, uint8_t *out, size_t out_size);
+
+/* ---- The card's keys and cryptograms ---- */
+
+/*
+ * Y: the card number and two digits of sequence (0 to 99), its rightmost 16 digits, zeros put on the left if short, two
+ * digits a byte. Writes 8 bytes.
+ * Refusals: 6 (card number, sequence), 7, 13.
+ */
+czg_answer czg_derivation_data(const uint8_t *card, size_t card_size, uint32_t sequence, uint8_t *out, size_t out_size);
+
+/*
+ * The card key: under a master key of 16 bytes, triple DES of Y, then of Y with all bits turned. No parity is set. Writes
+ * 16 bytes.
+ * Refusals: 6 (master key, card number, sequence), 7, 13.
+ */
+czg_answer czg_card_key(const uint8_t *master_key, size_t master_key_size, const uint8_t *card, size_t card_size,
+                        uint32_t sequence, uint8_t *out, size_t out_size);
+
+/*
+ * The session key: under a card key of 16 bytes, triple DES of six zero bytes and the transaction counter, then of the
+ * same with the counter's bits turned. Writes 16 bytes.
+ * Refusals: 6, 13.
+ */
+czg_answer czg_session_key(const uint8_t *card_key, size_t card_key_size, uint16_t counter,
+                           uint8_t *out, size_t out_size);
+
+/*
+ * ARQC: 1 to 255 bytes of data, with 80 hex and then zeros to a multiple of 8, under algorithm 3 of ISO/IEC 9797-1 with a
+ * session key of 16 bytes. Writes 8 bytes.
+ * Refusals: 6 (session key, data), 13.
+ */
+czg_answer czg_arqc(const uint8_t *session_key, size_t session_key_size, const uint8_t *data, size_t data_size,
+                    uint8_t *out, size_t out_size);
+
+/*
+ * ARPC: an ARQC of 8 bytes, exclusive-or the 2 code bytes and six zeros, triple DES under a session key of 16 bytes.
+ * Writes 8 bytes.
+ * Refusals: 6 (session key, ARQC, code), 13.
+ */
+czg_answer czg_arpc(const uint8_t *session_key, size_t session_key_size, const uint8_t *arqc, size_t arqc_size,
+                    const uint8_t *code, size_t code_size, uint8_t *out, size_t out_size);
+
+/* ---- Terminal keys (DUKPT, single length) ---- */
+
+/*
+ * The initial key: under a derivation key of 16 bytes, triple DES of the serial number's first 8 bytes with the low five
+ * bits cleared. A serial number has 10 bytes; its counter isn't looked at. Writes 8 bytes.
+ * Refusals: 6 (derivation key, serial number), 9, 13.
+ */
+czg_answer czg_initial_key(const uint8_t *derivation_key, size_t derivation_key_size,
+                           const uint8_t *serial_number, size_t serial_number_size, uint8_t *out, size_t out_size);
+
+/*
+ * The host's key for a serial number of 10 bytes with its counter: the register key of that counter with FF hex
+ * exclusive-or'd into its last byte. Writes 8 bytes.
+ * Refusals: 6 (derivation key, serial number), 9, 10, 13.
+ */
+czg_answer czg_host_key(const uint8_t *derivation_key, size_t derivation_key_size,
+                        const uint8_t *serial_number, size_t serial_number_size, uint8_t *out, size_t out_size);
+
+/*
+ * Loads a terminal: from an initial key of 8 bytes and a serial number of 10, whose counter bits are cleared, makes the
+ * record with counter 1 next. Writes 187 bytes.
+ * Refusals: 6 (initial key, serial number), 13.
+ */
+czg_answer czg_terminal_load(const uint8_t *initial_key, size_t initial_key_size,
+                             const uint8_t *serial_number, size_t serial_number_size, uint8_t *out, size_t out_size);
+
+/*
+ * The terminal's next key. The record has exactly 187 bytes and is changed in place; the key buffer gets 8 bytes and the
+ * serial buffer 10: the serial number with the counter of that key in it, for which czg_host_key gives the same key. A
+ * terminal gives 1,048,575 keys and is then exhausted. On done, length is 8. On a refusal the record, the key buffer and
+ * the serial buffer are left as they were.
+ * Refusals: 6 (record), 11, 12, 13 (key buffer shorter than 8, serial buffer shorter than 10).
+ */
+czg_answer czg_terminal_next_key(uint8_t *record, size_t record_size, uint8_t *key, size_t key_size,
+                                 uint8_t *serial_number, size_t serial_number_size);
+
+#ifdef __cplusplus
+}
+#endif
+
+#endif /* CHIZUREGWO_H */

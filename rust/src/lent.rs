@@ -1,0 +1,250 @@
+//! The entries of the library as they are: bytes lent to be read, bytes lent to be written.
+//!
+//! Done is `Ok` with how many bytes were written from the start of the buffer; the buffer's bytes after these are as they
+//! were. A refusal is `Err`, and every byte of every buffer is as it was.
+//!
+//! This is the only module with `unsafe` code.
+
+use crate::Error;
+
+/// What every entry answers.
+#[repr(C)]
+struct Answer {
+    number: u32,
+    length: u32,
+}
+
+impl Answer {
+    /// Done with a length, or the refusal of a number.
+    fn result(self) -> Result<usize, Error> {
+        match self.number {
+            0 => Ok(self.length as usize),
+            number => {
+                debug_assert_eq!(self.length, 0, "the length of a refusal");
+                Err(Error::from_number(number).expect("a number from 0 to 13"))
+            }
+        }
+    }
+}
+
+/// Bytes lent to be read.
+type Bytes = *const u8;
+/// Bytes lent to be written.
+type Buffer = *mut u8;
+
+// The entries as chizuregwo.h declares them.
+#[rustfmt::skip]
+extern "C" {
+    fn czg_encrypt(key: Bytes, key_size: usize, block: Bytes, block_size: usize,
+        out: Buffer, out_size: usize) -> Answer;
+    fn czg_decrypt(key: Bytes, key_size: usize, block: Bytes, block_size: usize,
+        out: Buffer, out_size: usize) -> Answer;
+    fn czg_key_entry(text: Bytes, text_size: usize, bytes_wanted: usize, out: Buffer, out_size: usize) -> Answer;
+    fn czg_clean(text: Bytes, text_size: usize, out: Buffer, out_size: usize) -> Answer;
+    fn czg_message_text(message: Bytes, message_size: usize, out: Buffer, out_size: usize) -> Answer;
+    fn czg_text_mac(key: Bytes, key_size: usize, text: Bytes, text_size: usize,
+        out: Buffer, out_size: usize) -> Answer;
+    fn czg_message_mac(key: Bytes, key_size: usize, message: Bytes, message_size: usize,
+        out: Buffer, out_size: usize) -> Answer;
+    fn czg_pin_make(pin: Bytes, pin_size: usize, out: Buffer, out_size: usize) -> Answer;
+    fn czg_pin_make_with_card(pin: Bytes, pin_size: usize, card: Bytes, card_size: usize,
+        out: Buffer, out_size: usize) -> Answer;
+    fn czg_pin_read(block: Bytes, block_size: usize, out: Buffer, out_size: usize) -> Answer;
+    fn czg_pin_read_with_card(block: Bytes, block_size: usize, card: Bytes, card_size: usize,
+        out: Buffer, out_size: usize) -> Answer;
+    fn czg_pin_encipher(pin: Bytes, pin_size: usize, key: Bytes, key_size: usize,
+        out: Buffer, out_size: usize) -> Answer;
+    fn czg_pin_encipher_with_card(pin: Bytes, pin_size: usize, card: Bytes, card_size: usize,
+        key: Bytes, key_size: usize, out: Buffer, out_size: usize) -> Answer;
+    fn czg_pin_decipher(block: Bytes, block_size: usize, key: Bytes, key_size: usize,
+        out: Buffer, out_size: usize) -> Answer;
+    fn czg_pin_decipher_with_card(block: Bytes, block_size: usize, card: Bytes, card_size: usize,
+        key: Bytes, key_size: usize, out: Buffer, out_size: usize) -> Answer;
+    fn czg_derivation_data(card: Bytes, card_size: usize, sequence: u32, out: Buffer, out_size: usize) -> Answer;
+    fn czg_card_key(master_key: Bytes, master_key_size: usize, card: Bytes, card_size: usize,
+        sequence: u32, out: Buffer, out_size: usize) -> Answer;
+    fn czg_session_key(card_key: Bytes, card_key_size: usize, counter: u16, out: Buffer, out_size: usize) -> Answer;
+    fn czg_arqc(session_key: Bytes, session_key_size: usize, data: Bytes, data_size: usize,
+        out: Buffer, out_size: usize) -> Answer;
+    fn czg_arpc(session_key: Bytes, session_key_size: usize, arqc: Bytes, arqc_size: usize,
+        code: Bytes, code_size: usize, out: Buffer, out_size: usize) -> Answer;
+    fn czg_initial_key(derivation_key: Bytes, derivation_key_size: usize, serial_number: Bytes, serial_number_size: usize,
+        out: Buffer, out_size: usize) -> Answer;
+    fn czg_host_key(derivation_key: Bytes, derivation_key_size: usize, serial_number: Bytes, serial_number_size: usize,
+        out: Buffer, out_size: usize) -> Answer;
+    fn czg_terminal_load(initial_key: Bytes, initial_key_size: usize, serial_number: Bytes, serial_number_size: usize,
+        out: Buffer, out_size: usize) -> Answer;
+    fn czg_terminal_next_key(record: Buffer, record_size: usize, key: Buffer, key_size: usize,
+        serial_number: Buffer, serial_number_size: usize) -> Answer;
+}
+
+/// Calls an entry on some slices, a number where it takes one, and the buffer that it writes.
+macro_rules! call {
+    ($entry:ident($($bytes:ident),+ $(; $number:ident)?) into $out:ident) => {
+        // SAFETY: each pointer and size are those of one slice, and `out`, being lent to be changed, overlaps none.
+        unsafe { $entry($($bytes.as_ptr(), $bytes.len(),)+ $($number,)? $out.as_mut_ptr(), $out.len()) }.result()
+    };
+}
+
+/// [`encrypt`](crate::encrypt) into a buffer.
+pub fn encrypt(key: &[u8], block: &[u8], out: &mut [u8]) -> Result<usize, Error> {
+    call!(czg_encrypt(key, block) into out)
+}
+
+/// [`decrypt`](crate::decrypt) into a buffer.
+pub fn decrypt(key: &[u8], block: &[u8], out: &mut [u8]) -> Result<usize, Error> {
+    call!(czg_decrypt(key, block) into out)
+}
+
+/// [`key_entry`](crate::key_entry) into a buffer.
+pub fn key_entry(text: &[u8], bytes_wanted: usize, out: &mut [u8]) -> Result<usize, Error> {
+    call!(czg_key_entry(text; bytes_wanted) into out)
+}
+
+/// [`clean`](crate::clean) into a buffer.
+pub fn clean(text: &[u8], out: &mut [u8]) -> Result<usize, Error> {
+    call!(czg_clean(text) into out)
+}
+
+/// [`message_text`](crate::message_text) into a buffer.
+pub fn message_text(message: &[u8], out: &mut [u8]) -> Result<usize, Error> {
+    call!(czg_message_text(message) into out)
+}
+
+/// [`text_mac`](crate::text_mac) into a buffer.
+pub fn text_mac(key: &[u8], text: &[u8], out: &mut [u8]) -> Result<usize, Error> {
+    call!(czg_text_mac(key, text) into out)
+}
+
+/// [`message_mac`](crate::message_mac) into a buffer.
+pub fn message_mac(key: &[u8], message: &[u8], out: &mut [u8]) -> Result<usize, Error> {
+    call!(czg_message_mac(key, message) into out)
+}
+
+/// [`pin_make`](crate::pin_make) into a buffer.
+pub fn pin_make(pin: &[u8], out: &mut [u8]) -> Result<usize, Error> {
+    call!(czg_pin_make(pin) into out)
+}
+
+/// [`pin_make_with_card`](crate::pin_make_with_card) into a buffer.
+pub fn pin_make_with_card(pin: &[u8], card: &[u8], out: &mut [u8]) -> Result<usize, Error> {
+    call!(czg_pin_make_with_card(pin, card) into out)
+}
+
+/// [`pin_read`](crate::pin_read) into a buffer.
+pub fn pin_read(block: &[u8], out: &mut [u8]) -> Result<usize, Error> {
+    call!(czg_pin_read(block) into out)
+}
+
+/// [`pin_read_with_card`](crate::pin_read_with_card) into a buffer.
+pub fn pin_read_with_card(block: &[u8], card: &[u8], out: &mut [u8]) -> Result<usize, Error> {
+    call!(czg_pin_read_with_card(block, card) into out)
+}
+
+/// [`pin_encipher`](crate::pin_encipher) into a buffer.
+pub fn pin_encipher(pin: &[u8], key: &[u8], out: &mut [u8]) -> Result<usize, Error> {
+    call!(czg_pin_encipher(pin, key) into out)
+}
+
+/// [`pin_encipher_with_card`](crate::pin_encipher_with_card) into a buffer.
+pub fn pin_encipher_with_card(
+    pin: &[u8],
+    card: &[u8],
+    key: &[u8],
+    out: &mut [u8],
+) -> Result<usize, Error> {
+    call!(czg_pin_encipher_with_card(pin, card, key) into out)
+}
+
+/// [`pin_decipher`](crate::pin_decipher) into a buffer.
+pub fn pin_decipher(block: &[u8], key: &[u8], out: &mut [u8]) -> Result<usize, Error> {
+    call!(czg_pin_decipher(block, key) into out)
+}
+
+/// [`pin_decipher_with_card`](crate::pin_decipher_with_card) into a buffer.
+pub fn pin_decipher_with_card(
+    block: &[u8],
+    card: &[u8],
+    key: &[u8],
+    out: &mut [u8],
+) -> Result<usize, Error> {
+    call!(czg_pin_decipher_with_card(block, card, key) into out)
+}
+
+/// [`derivation_data`](crate::derivation_data) into a buffer.
+pub fn derivation_data(card: &[u8], sequence: u32, out: &mut [u8]) -> Result<usize, Error> {
+    call!(czg_derivation_data(card; sequence) into out)
+}
+
+/// [`card_key`](crate::card_key) into a buffer.
+pub fn card_key(
+    master_key: &[u8],
+    card: &[u8],
+    sequence: u32,
+    out: &mut [u8],
+) -> Result<usize, Error> {
+    call!(czg_card_key(master_key, card; sequence) into out)
+}
+
+/// [`session_key`](crate::session_key) into a buffer.
+pub fn session_key(card_key: &[u8], counter: u16, out: &mut [u8]) -> Result<usize, Error> {
+    call!(czg_session_key(card_key; counter) into out)
+}
+
+/// [`arqc`](crate::arqc) into a buffer.
+pub fn arqc(session_key: &[u8], data: &[u8], out: &mut [u8]) -> Result<usize, Error> {
+    call!(czg_arqc(session_key, data) into out)
+}
+
+/// [`arpc`](crate::arpc) into a buffer.
+pub fn arpc(session_key: &[u8], arqc: &[u8], code: &[u8], out: &mut [u8]) -> Result<usize, Error> {
+    call!(czg_arpc(session_key, arqc, code) into out)
+}
+
+/// [`initial_key`](crate::initial_key) into a buffer.
+pub fn initial_key(
+    derivation_key: &[u8],
+    serial_number: &[u8],
+    out: &mut [u8],
+) -> Result<usize, Error> {
+    call!(czg_initial_key(derivation_key, serial_number) into out)
+}
+
+/// [`host_key`](crate::host_key) into a buffer.
+pub fn host_key(
+    derivation_key: &[u8],
+    serial_number: &[u8],
+    out: &mut [u8],
+) -> Result<usize, Error> {
+    call!(czg_host_key(derivation_key, serial_number) into out)
+}
+
+/// [`Terminal::load`](crate::Terminal::load) into a buffer: the record.
+pub fn terminal_load(
+    initial_key: &[u8],
+    serial_number: &[u8],
+    out: &mut [u8],
+) -> Result<usize, Error> {
+    call!(czg_terminal_load(initial_key, serial_number) into out)
+}
+
+/// [`Terminal::next_key`](crate::Terminal::next_key) on a record of 187 bytes, changed in place, with the key and the
+/// serial number into buffers.
+pub fn terminal_next_key(
+    record: &mut [u8],
+    key: &mut [u8],
+    serial_number: &mut [u8],
+) -> Result<usize, Error> {
+    // SAFETY: each pointer and size are those of one slice; lent to be changed, they do not overlap.
+    unsafe {
+        czg_terminal_next_key(
+            record.as_mut_ptr(),
+            record.len(),
+            key.as_mut_ptr(),
+            key.len(),
+            serial_number.as_mut_ptr(),
+            serial_number.len(),
+        )
+    }
+    .result()
+}

@@ -1,0 +1,320 @@
+//! The cryptography of rented card terminals: DES and two-key triple DES, key entry, the MAC of a text and of an online
+//! message, PIN blocks, chip-card keys and cryptograms, and DUKPT on the host and in the terminal.
+//!
+//! Safe functions over `libchizuregwo.a`, one for each of its entries. Each returns the result, or an [`Error`] with the
+//! refusal's number and meaning. The module [`lent`] has the same entries over buffers of the caller's own.
+//!
+//! Where several refusals apply, the error is the first in the order that stands with the function.
+
+#![deny(missing_docs)]
+#![deny(unsafe_code)]
+
+mod error;
+#[allow(unsafe_code)]
+pub mod lent;
+mod terminal;
+
+pub use error::Error;
+pub use terminal::{NextKey, SerialNumber, Terminal, RECORD_SIZE};
+
+/// A block, a MAC, a cryptogram or a single-length key: 8 bytes.
+pub type Block = [u8; 8];
+
+/// A double-length key, left half first: 16 bytes.
+pub type DoubleKey = [u8; 16];
+
+/// Most characters of a message's MAC text.
+pub const MOST_MESSAGE_TEXT: usize = 166;
+
+/// Most digits of a PIN.
+pub const MOST_PIN: usize = 12;
+
+/// A result of fixed size.
+fn fixed<const N: usize>(
+    entry: impl FnOnce(&mut [u8]) -> Result<usize, Error>,
+) -> Result<[u8; N], Error> {
+    let mut out = [0; N];
+    let length = entry(&mut out)?;
+    debug_assert_eq!(length, N);
+    Ok(out)
+}
+
+/// A result of at most so many bytes.
+fn at_most(
+    room: usize,
+    entry: impl FnOnce(&mut [u8]) -> Result<usize, Error>,
+) -> Result<Vec<u8>, Error> {
+    let mut out = vec![0; room];
+    let length = entry(&mut out)?;
+    out.truncate(length);
+    Ok(out)
+}
+
+/// Enciphers a block of 8 bytes: DES under a key of 8 bytes, triple DES under one of 16. Refusals: 6.
+///
+/// ```
+/// let key = [0x13, 0x34, 0x57, 0x79, 0x9B, 0xBC, 0xDF, 0xF1];
+/// let block = [0x01, 0x23, 0x45, 0x67, 0x89, 0xAB, 0xCD, 0xEF];
+/// let enciphered = [0x85, 0xE8, 0x13, 0x54, 0x0F, 0x0A, 0xB4, 0x05];
+/// assert_eq!(chizuregwo::encrypt(&key, &block), Ok(enciphered));
+/// ```
+pub fn encrypt(key: &[u8], block: &[u8]) -> Result<Block, Error> {
+    fixed(|out| lent::encrypt(key, block, out))
+}
+
+/// Deciphers: undoes [`encrypt`] under the same key. Refusals: 6.
+///
+/// ```
+/// let key = *b"left halrightha.";
+/// let enciphered = chizuregwo::encrypt(&key, b"a block.")?;
+/// assert_eq!(&chizuregwo::decrypt(&key, &enciphered)?, b"a block.");
+/// # Ok::<(), chizuregwo::Error>(())
+/// ```
+pub fn decrypt(key: &[u8], block: &[u8]) -> Result<Block, Error> {
+    fixed(|out| lent::decrypt(key, block, out))
+}
+
+/// A key from hexadecimal text, letters of either case: 8 or 16 bytes are wanted, and the text has exactly twice as many
+/// digits. Refusals: 6, 7.
+///
+/// ```
+/// use chizuregwo::{key_entry, Error};
+/// assert_eq!(key_entry(b"0123456789abCDEF", 8)?, [0x01, 0x23, 0x45, 0x67, 0x89, 0xAB, 0xCD, 0xEF]);
+/// assert_eq!(key_entry(b"0123456789abCDEF", 16), Err(Error::Size));
+/// # Ok::<(), Error>(())
+/// ```
+pub fn key_entry(text: &[u8], bytes_wanted: usize) -> Result<Vec<u8>, Error> {
+    at_most(16, |out| lent::key_entry(text, bytes_wanted, out))
+}
+
+/// Cleans a text of 0 to 1,024 bytes: small letters become capitals; only A to Z, 0 to 9, space, comma and full stop
+/// stay; after that, spaces at both ends go and each run of spaces becomes one. Refusals: 6.
+///
+/// ```
+/// assert_eq!(chizuregwo::clean(b"a - b")?, b"A B");
+/// # Ok::<(), chizuregwo::Error>(())
+/// ```
+pub fn clean(text: &[u8]) -> Result<Vec<u8>, Error> {
+    at_most(text.len(), |out| lent::clean(text, out))
+}
+
+/// The MAC text of an online message of 1 to 4,096 bytes. Refusals: 6; then records one at a time, each 1, 2, 4, 3.
+///
+/// ```
+/// let message = b"\x04\0\0\x000200\x06\0\x03\x00000000\x08\0\x29\0a-1     ";
+/// assert_eq!(chizuregwo::message_text(message)?, b"0200 000000 A1");
+/// # Ok::<(), chizuregwo::Error>(())
+/// ```
+pub fn message_text(message: &[u8]) -> Result<Vec<u8>, Error> {
+    at_most(MOST_MESSAGE_TEXT, |out| lent::message_text(message, out))
+}
+
+/// The MAC of a free text of 0 to 1,024 bytes under a key of 8, the text being cleaned first. Refusals: 6, 5.
+///
+/// ```
+/// use chizuregwo::{text_mac, Error};
+/// let key = [0x01, 0x23, 0x45, 0x67, 0x89, 0xAB, 0xCD, 0xEF];
+/// assert_eq!(text_mac(&key, b"ab  c")?, [0x07, 0x74, 0xE3, 0xFC, 0x85, 0x9D, 0x71, 0xF2]);
+/// assert_eq!(text_mac(&key, b"---"), Err(Error::EmptyText));
+/// # Ok::<(), Error>(())
+/// ```
+pub fn text_mac(key: &[u8], text: &[u8]) -> Result<Block, Error> {
+    fixed(|out| lent::text_mac(key, text, out))
+}
+
+/// The MAC of a message under a key of 8 bytes: of its MAC text. Refusals: 6; then records one at a time, each 1, 2, 4, 3.
+///
+/// ```
+/// let key = [0x01, 0x23, 0x45, 0x67, 0x89, 0xAB, 0xCD, 0xEF];
+/// let mac = [0xDB, 0x81, 0x03, 0x56, 0x75, 0xC6, 0x51, 0x60];
+/// assert_eq!(chizuregwo::message_mac(&key, b"\x04\0\0\x000200"), Ok(mac));
+/// ```
+pub fn message_mac(key: &[u8], message: &[u8]) -> Result<Block, Error> {
+    fixed(|out| lent::message_mac(key, message, out))
+}
+
+/// Clear PIN block of a PIN of 4 to 12 digits, without card number. Refusals: 6, 7.
+///
+/// ```
+/// assert_eq!(chizuregwo::pin_make(b"1234"), Ok([0x04, 0x12, 0x34, 0xFF, 0xFF, 0xFF, 0xFF, 0xFF]));
+/// ```
+pub fn pin_make(pin: &[u8]) -> Result<Block, Error> {
+    fixed(|out| lent::pin_make(pin, out))
+}
+
+/// Clear PIN block with a card number of 13 to 19 digits (ISO 9564-1, format 0). Refusals: 6, 7.
+///
+/// ```
+/// let block = chizuregwo::pin_make_with_card(b"1234", b"4219876543210987");
+/// assert_eq!(block, Ok([0x04, 0x12, 0xAC, 0x89, 0xAB, 0xCD, 0xEF, 0x67]));
+/// ```
+pub fn pin_make_with_card(pin: &[u8], card: &[u8]) -> Result<Block, Error> {
+    fixed(|out| lent::pin_make_with_card(pin, card, out))
+}
+
+/// The PIN of a clear block of 8 bytes, as text digits. Refusals: 6, 8.
+///
+/// ```
+/// use chizuregwo::{pin_read, Error};
+/// assert_eq!(pin_read(&[0x04, 0x12, 0x34, 0xFF, 0xFF, 0xFF, 0xFF, 0xFF])?, b"1234");
+/// assert_eq!(pin_read(&[0x03, 0x12, 0x3F, 0xFF, 0xFF, 0xFF, 0xFF, 0xFF]), Err(Error::NoSuchPin));
+/// # Ok::<(), Error>(())
+/// ```
+pub fn pin_read(block: &[u8]) -> Result<Vec<u8>, Error> {
+    at_most(MOST_PIN, |out| lent::pin_read(block, out))
+}
+
+/// The PIN of a clear block with card number. Refusals: 6, 7, 8.
+///
+/// ```
+/// let block = [0x04, 0x12, 0xAC, 0x89, 0xAB, 0xCD, 0xEF, 0x67];
+/// assert_eq!(chizuregwo::pin_read_with_card(&block, b"4219876543210987")?, b"1234");
+/// # Ok::<(), chizuregwo::Error>(())
+/// ```
+pub fn pin_read_with_card(block: &[u8], card: &[u8]) -> Result<Vec<u8>, Error> {
+    at_most(MOST_PIN, |out| lent::pin_read_with_card(block, card, out))
+}
+
+/// Enciphered PIN block without card number: DES under a key of 8 bytes, triple DES under one of 16. Refusals: 6, 7.
+///
+/// ```
+/// use chizuregwo::{encrypt, pin_encipher, pin_make};
+/// let key = *b"PIN key.";
+/// assert_eq!(pin_encipher(b"1234", &key)?, encrypt(&key, &pin_make(b"1234")?)?);
+/// # Ok::<(), chizuregwo::Error>(())
+/// ```
+pub fn pin_encipher(pin: &[u8], key: &[u8]) -> Result<Block, Error> {
+    fixed(|out| lent::pin_encipher(pin, key, out))
+}
+
+/// Enciphered PIN block with card number. Refusals: 6, 7.
+///
+/// ```
+/// use chizuregwo::{encrypt, pin_encipher_with_card, pin_make_with_card};
+/// let (key, card) = (*b"double PIN key..", b"4219876543210987");
+/// let clear = pin_make_with_card(b"1234", card)?;
+/// assert_eq!(pin_encipher_with_card(b"1234", card, &key)?, encrypt(&key, &clear)?);
+/// # Ok::<(), chizuregwo::Error>(())
+/// ```
+pub fn pin_encipher_with_card(pin: &[u8], card: &[u8], key: &[u8]) -> Result<Block, Error> {
+    fixed(|out| lent::pin_encipher_with_card(pin, card, key, out))
+}
+
+/// The PIN of an enciphered block of 8 bytes, as text digits. Refusals: 6, 8.
+///
+/// ```
+/// use chizuregwo::{pin_decipher, pin_encipher};
+/// let block = pin_encipher(b"987654", b"PIN key.")?;
+/// assert_eq!(pin_decipher(&block, b"PIN key.")?, b"987654");
+/// # Ok::<(), chizuregwo::Error>(())
+/// ```
+pub fn pin_decipher(block: &[u8], key: &[u8]) -> Result<Vec<u8>, Error> {
+    at_most(MOST_PIN, |out| lent::pin_decipher(block, key, out))
+}
+
+/// The PIN of an enciphered block with card number. Refusals: 6, 7, 8.
+///
+/// ```
+/// use chizuregwo::{pin_decipher_with_card, pin_encipher_with_card};
+/// let card = b"4219876543210987";
+/// let block = pin_encipher_with_card(b"987654", card, b"PIN key.")?;
+/// assert_eq!(pin_decipher_with_card(&block, card, b"PIN key.")?, b"987654");
+/// # Ok::<(), chizuregwo::Error>(())
+/// ```
+pub fn pin_decipher_with_card(block: &[u8], card: &[u8], key: &[u8]) -> Result<Vec<u8>, Error> {
+    at_most(MOST_PIN, |out| {
+        lent::pin_decipher_with_card(block, card, key, out)
+    })
+}
+
+/// Y: the card number and two digits of sequence (0 to 99), its rightmost 16 digits, zeros put on the left if short.
+/// Refusals: 6, 7.
+///
+/// ```
+/// let y = chizuregwo::derivation_data(b"6228000100001", 1);
+/// assert_eq!(y, Ok([0x06, 0x22, 0x80, 0x00, 0x10, 0x00, 0x01, 0x01]));
+/// ```
+pub fn derivation_data(card: &[u8], sequence: u32) -> Result<Block, Error> {
+    fixed(|out| lent::derivation_data(card, sequence, out))
+}
+
+/// The card key: under a master key of 16 bytes, triple DES of Y, then of Y with all bits turned. Refusals: 6, 7.
+///
+/// ```
+/// use chizuregwo::{card_key, key_entry};
+/// let master_key = key_entry(b"F0C34A8124CEE0A91A0B034AA97D6EAC", 16)?;
+/// let key = card_key(&master_key, b"6228000100001", 1)?;
+/// assert_eq!(key.to_vec(), key_entry(b"014D996FCC8F49157DC8B49E3BCDFD99", 16)?);
+/// # Ok::<(), chizuregwo::Error>(())
+/// ```
+pub fn card_key(master_key: &[u8], card: &[u8], sequence: u32) -> Result<DoubleKey, Error> {
+    fixed(|out| lent::card_key(master_key, card, sequence, out))
+}
+
+/// The session key of a transaction counter, under a card key of 16 bytes. Refusals: 6.
+///
+/// ```
+/// use chizuregwo::{key_entry, session_key};
+/// let card_key = key_entry(b"014D996FCC8F49157DC8B49E3BCDFD99", 16)?;
+/// let key = session_key(&card_key, 0x0240)?;
+/// assert_eq!(key.to_vec(), key_entry(b"D4102725E6E5AD329E55AAB50BF23DA9", 16)?);
+/// # Ok::<(), chizuregwo::Error>(())
+/// ```
+pub fn session_key(card_key: &[u8], counter: u16) -> Result<DoubleKey, Error> {
+    fixed(|out| lent::session_key(card_key, counter, out))
+}
+
+/// ARQC of 1 to 255 bytes of data under a session key of 16. Refusals: 6.
+///
+/// ```
+/// use chizuregwo::{arqc, encrypt, key_entry};
+/// let session_key = key_entry(b"D4102725E6E5AD329E55AAB50BF23DA9", 16)?;
+/// assert_eq!(arqc(&session_key, b"1234567")?, encrypt(&session_key, b"1234567\x80")?);
+/// # Ok::<(), chizuregwo::Error>(())
+/// ```
+pub fn arqc(session_key: &[u8], data: &[u8]) -> Result<Block, Error> {
+    fixed(|out| lent::arqc(session_key, data, out))
+}
+
+/// ARPC of an ARQC of 8 bytes and a code of 2 under a session key of 16. Refusals: 6.
+///
+/// ```
+/// use chizuregwo::{arpc, key_entry};
+/// let session_key = key_entry(b"D4102725E6E5AD329E55AAB50BF23DA9", 16)?;
+/// let arqc = key_entry(b"5D016C91005E7CC2", 8)?;
+/// assert_eq!(arpc(&session_key, &arqc, b"01")?.to_vec(), key_entry(b"21415243527CE78F", 8)?);
+/// # Ok::<(), chizuregwo::Error>(())
+/// ```
+pub fn arpc(session_key: &[u8], arqc: &[u8], code: &[u8]) -> Result<Block, Error> {
+    fixed(|out| lent::arpc(session_key, arqc, code, out))
+}
+
+/// The initial key of a serial number of 10 bytes, whatever its counter, under a derivation key of 16. Refusals: 6, 9.
+///
+/// ```
+/// use chizuregwo::{initial_key, key_entry, Error};
+/// let derivation_key = key_entry(b"51525457585B5D5E61626467686B6D6E", 16)?;
+/// let serial_number = [0x01, 0x23, 0x45, 0x67, 0x89, 0xAB, 0xCD, 0xF0, 0x00, 0x01];
+/// let key = initial_key(&derivation_key, &serial_number)?;
+/// assert_eq!(key.to_vec(), key_entry(b"21EE7C08DBE820AB", 8)?);
+/// assert_eq!(initial_key(b"0123456701234567", &serial_number), Err(Error::EqualHalves));
+/// # Ok::<(), Error>(())
+/// ```
+pub fn initial_key(derivation_key: &[u8], serial_number: &[u8]) -> Result<Block, Error> {
+    fixed(|out| lent::initial_key(derivation_key, serial_number, out))
+}
+
+/// The host's key for a serial number of 10 bytes with its counter, under a derivation key of 16. Refusals: 6, 9, 10.
+///
+/// ```
+/// use chizuregwo::{host_key, key_entry, Error};
+/// let derivation_key = key_entry(b"51525457585B5D5E61626467686B6D6E", 16)?;
+/// let serial_number = [0x01, 0x23, 0x45, 0x67, 0x89, 0xAB, 0xCD, 0xF0, 0x00, 0x01];
+/// let key = host_key(&derivation_key, &serial_number)?;
+/// assert_eq!(key.to_vec(), key_entry(b"670B395E6CFB60C2", 8)?);
+/// assert_eq!(host_key(&derivation_key, &[0; 10]), Err(Error::Counter));
+/// # Ok::<(), Error>(())
+/// ```
+pub fn host_key(derivation_key: &[u8], serial_number: &[u8]) -> Result<Block, Error> {
+    fixed(|out| lent::host_key(derivation_key, serial_number, out))
+}

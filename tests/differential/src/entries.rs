@@ -1,0 +1,402 @@
+//! The entries that write one buffer: how each is called, here and in the second implementation, and its inputs.
+
+use crate::messages::{message, text};
+use crate::random::Random;
+use chizuregwo::{lent, Error};
+use second::numbers::{Answer, SIZE};
+use second::{card, cleaning, des, dukpt, key_entry, mac, message as messages, pin};
+
+/// Room that no result fills.
+const ENOUGH: usize = usize::MAX;
+
+/// An input: the lent parts, and a number where the entry takes one.
+pub struct Input {
+    pub parts: Vec<Vec<u8>>,
+    pub number: u64,
+}
+
+/// An entry and how it is called in the library and in the second implementation.
+pub struct Entry {
+    pub name: &'static str,
+    /// Inputs of every thousand.
+    pub share: usize,
+    pub input: fn(&mut Random) -> Input,
+    pub library: fn(&Input, &mut [u8]) -> Result<usize, Error>,
+    pub second: fn(&Input) -> Answer,
+}
+
+/// An input of parts alone.
+fn parts(parts: Vec<Vec<u8>>) -> Input {
+    Input { parts, number: 0 }
+}
+
+/// A single- or double-length key.
+fn key(random: &mut Random) -> Vec<u8> {
+    let size = random.one_of(&[8, 16]);
+    random.sized(size)
+}
+
+/// DES or triple DES by the key's size: 6.
+fn cipher(
+    key: &[u8],
+    block: &[u8],
+    single: fn(&[u8; 8], &[u8; 8]) -> [u8; 8],
+    triple: fn(&[u8; 16], &[u8; 8]) -> [u8; 8],
+) -> Answer {
+    let block: &[u8; 8] = block.try_into().map_err(|_| SIZE)?;
+    if let Ok(key) = key.try_into() {
+        return Ok(single(key, block).to_vec());
+    }
+    let key = key.try_into().map_err(|_| SIZE)?;
+    Ok(triple(key, block).to_vec())
+}
+
+fn cipher_input(random: &mut Random) -> Input {
+    parts(vec![key(random), random.sized(8)])
+}
+
+fn key_entry_input(random: &mut Random) -> Input {
+    let wanted = random.one_of(&[8usize, 16]);
+    let length = if random.once_in(12) {
+        random.below(40)
+    } else {
+        2 * wanted
+    };
+    let mut text = random.characters(b"0123456789ABCDEFabcdef", length);
+    if random.once_in(6) {
+        random.spoil(&mut text, b"/:@G`g \xFF");
+    }
+    let odd = [
+        0,
+        1,
+        4,
+        7,
+        9,
+        15,
+        17,
+        24,
+        32,
+        1 << 63,
+        (1 << 63) + 8,
+        u64::MAX,
+    ];
+    let number = if random.once_in(10) {
+        random.one_of(&odd)
+    } else {
+        wanted as u64
+    };
+    Input {
+        parts: vec![text],
+        number,
+    }
+}
+
+fn pin_digits(random: &mut Random) -> Vec<u8> {
+    random.digits(4, 12)
+}
+
+fn card_number(random: &mut Random) -> Vec<u8> {
+    random.digits(13, 19)
+}
+
+/// A clear block: mostly of a permitted PIN and the card number, if that can be made, and a third of these damaged.
+fn clear_block(random: &mut Random, card: Option<&[u8]>) -> [u8; 8] {
+    let pin = pin_digits(random);
+    let made = match card {
+        None => pin::make(&pin),
+        Some(card) => pin::make_with_card(&pin, card),
+    };
+    let Ok(made) = made else {
+        return random.array();
+    };
+    let mut block: [u8; 8] = made.try_into().expect("a block has 8 bytes");
+    if random.once_in(3) {
+        let place = random.below(16);
+        let half_byte = random.between(1, 15) as u8;
+        block[place / 2] ^= half_byte << (4 * (1 - place % 2));
+    }
+    block
+}
+
+/// A block of 8 bytes; once in sixteen of another size.
+fn resized(random: &mut Random, block: [u8; 8]) -> Vec<u8> {
+    let mut block = block.to_vec();
+    if random.once_in(16) {
+        block.resize(random.below(18), 0);
+    }
+    block
+}
+
+fn read_input(random: &mut Random) -> Input {
+    let block = clear_block(random, None);
+    parts(vec![resized(random, block)])
+}
+
+fn read_with_card_input(random: &mut Random) -> Input {
+    let card = card_number(random);
+    let block = clear_block(random, Some(&card));
+    parts(vec![resized(random, block), card])
+}
+
+/// A clear block enciphered under a key, if that has a key's size.
+fn enciphered(random: &mut Random, key: &[u8], block: [u8; 8]) -> Vec<u8> {
+    let enciphered = cipher(key, &block, des::encrypt, des::triple_encrypt);
+    let block = enciphered.map_or(block, |bytes| bytes.try_into().expect("8 bytes"));
+    resized(random, block)
+}
+
+fn decipher_input(random: &mut Random) -> Input {
+    let (key, block) = (key(random), clear_block(random, None));
+    parts(vec![enciphered(random, &key, block), key])
+}
+
+fn decipher_with_card_input(random: &mut Random) -> Input {
+    let (key, card) = (key(random), card_number(random));
+    let block = clear_block(random, Some(&card));
+    parts(vec![enciphered(random, &key, block), card, key])
+}
+
+/// A card sequence: 0 to 99, and now and then above.
+fn sequence(random: &mut Random) -> u64 {
+    match random.below(16) {
+        0 => random.one_of(&[100, 101, 255, 256, 1000, u32::MAX as u64]),
+        1 => random.one_of(&[0, 9, 10, 99]),
+        _ => random.below(100) as u64,
+    }
+}
+
+fn card_data(random: &mut Random) -> Vec<u8> {
+    let length = match random.below(12) {
+        0 => random.one_of(&[0, 256, 257, 300]),
+        1 => random.between(248, 255),
+        2..=4 => random.one_of(&[8, 16, 24, 32]),
+        _ => random.between(1, 60),
+    };
+    random.bytes(length)
+}
+
+/// A derivation key; once in twelve with equal halves.
+fn derivation_key(random: &mut Random) -> Vec<u8> {
+    let mut key = random.sized(16);
+    if key.len() == 16 && random.once_in(12) {
+        key.copy_within(..8, 8);
+    }
+    if key.len() == 16 && random.once_in(40) {
+        key.copy_within(..8, 8);
+        key[15] ^= 1;
+    }
+    key
+}
+
+/// A counter of about so many one bits.
+pub fn counter(random: &mut Random) -> u32 {
+    let ones = random.between(1, 12);
+    (0..ones).fold(0, |counter, _| counter | 1 << random.below(21))
+}
+
+/// A serial number whose counter is mostly permitted.
+fn serial_number(random: &mut Random) -> Vec<u8> {
+    let mut serial = random.sized(10);
+    if serial.len() == 10 && !random.once_in(8) {
+        let counter = if random.once_in(16) {
+            0
+        } else {
+            counter(random)
+        };
+        let array: [u8; 10] = serial.try_into().expect("10 bytes");
+        serial = dukpt::with_counter(&array, counter).to_vec();
+    }
+    serial
+}
+
+/// A card sequence as the entries take it.
+fn sequence_of(input: &Input) -> u32 {
+    u32::try_from(input.number).expect("a sequence of 32 bits")
+}
+
+/// A transaction counter as the entries take it.
+fn transaction_counter(input: &Input) -> u16 {
+    u16::try_from(input.number).expect("a counter of 16 bits")
+}
+
+/// How many bytes key entry is asked for.
+fn wanted(input: &Input) -> usize {
+    input.number as usize
+}
+
+/// Every entry that writes one buffer. The shares make a thousand with those of the terminal's next key.
+pub const ENTRIES: [Entry; 23] = [
+    Entry {
+        name: "encrypt",
+        share: 40,
+        input: cipher_input,
+        library: |i, out| lent::encrypt(&i.parts[0], &i.parts[1], out),
+        second: |i| cipher(&i.parts[0], &i.parts[1], des::encrypt, des::triple_encrypt),
+    },
+    Entry {
+        name: "decrypt",
+        share: 40,
+        input: cipher_input,
+        library: |i, out| lent::decrypt(&i.parts[0], &i.parts[1], out),
+        second: |i| cipher(&i.parts[0], &i.parts[1], des::decrypt, des::triple_decrypt),
+    },
+    Entry {
+        name: "key_entry",
+        share: 60,
+        input: key_entry_input,
+        library: |i, out| lent::key_entry(&i.parts[0], wanted(i), out),
+        second: |i| key_entry::key_entry(&i.parts[0], wanted(i), ENOUGH),
+    },
+    Entry {
+        name: "clean",
+        share: 100,
+        input: |random| parts(vec![text(random, 200)]),
+        library: |i, out| lent::clean(&i.parts[0], out),
+        second: |i| cleaning::clean(&i.parts[0], ENOUGH),
+    },
+    Entry {
+        name: "message_text",
+        share: 120,
+        input: |random| parts(vec![message(random)]),
+        library: |i, out| lent::message_text(&i.parts[0], out),
+        second: |i| messages::message_text(&i.parts[0], ENOUGH),
+    },
+    Entry {
+        name: "text_mac",
+        share: 30,
+        input: |random| parts(vec![random.sized(8), text(random, 60)]),
+        library: |i, out| lent::text_mac(&i.parts[0], &i.parts[1], out),
+        second: |i| mac::text_mac(&i.parts[0], &i.parts[1]),
+    },
+    Entry {
+        name: "message_mac",
+        share: 40,
+        input: |random| parts(vec![random.sized(8), message(random)]),
+        library: |i, out| lent::message_mac(&i.parts[0], &i.parts[1], out),
+        second: |i| mac::message_mac(&i.parts[0], &i.parts[1]),
+    },
+    Entry {
+        name: "pin_make",
+        share: 50,
+        input: |random| parts(vec![pin_digits(random)]),
+        library: |i, out| lent::pin_make(&i.parts[0], out),
+        second: |i| pin::make(&i.parts[0]),
+    },
+    Entry {
+        name: "pin_make_with_card",
+        share: 50,
+        input: |random| parts(vec![pin_digits(random), card_number(random)]),
+        library: |i, out| lent::pin_make_with_card(&i.parts[0], &i.parts[1], out),
+        second: |i| pin::make_with_card(&i.parts[0], &i.parts[1]),
+    },
+    Entry {
+        name: "pin_read",
+        share: 50,
+        input: read_input,
+        library: |i, out| lent::pin_read(&i.parts[0], out),
+        second: |i| pin::read(&i.parts[0], ENOUGH),
+    },
+    Entry {
+        name: "pin_read_with_card",
+        share: 50,
+        input: read_with_card_input,
+        library: |i, out| lent::pin_read_with_card(&i.parts[0], &i.parts[1], out),
+        second: |i| pin::read_with_card(&i.parts[0], &i.parts[1], ENOUGH),
+    },
+    Entry {
+        name: "pin_encipher",
+        share: 30,
+        input: |random| parts(vec![pin_digits(random), key(random)]),
+        library: |i, out| lent::pin_encipher(&i.parts[0], &i.parts[1], out),
+        second: |i| pin::encipher(&i.parts[0], &i.parts[1]),
+    },
+    Entry {
+        name: "pin_encipher_with_card",
+        share: 30,
+        input: |random| parts(vec![pin_digits(random), card_number(random), key(random)]),
+        library: |i, out| lent::pin_encipher_with_card(&i.parts[0], &i.parts[1], &i.parts[2], out),
+        second: |i| pin::encipher_with_card(&i.parts[0], &i.parts[1], &i.parts[2]),
+    },
+    Entry {
+        name: "pin_decipher",
+        share: 30,
+        input: decipher_input,
+        library: |i, out| lent::pin_decipher(&i.parts[0], &i.parts[1], out),
+        second: |i| pin::decipher(&i.parts[0], &i.parts[1], ENOUGH),
+    },
+    Entry {
+        name: "pin_decipher_with_card",
+        share: 30,
+        input: decipher_with_card_input,
+        library: |i, out| lent::pin_decipher_with_card(&i.parts[0], &i.parts[1], &i.parts[2], out),
+        second: |i| pin::decipher_with_card(&i.parts[0], &i.parts[1], &i.parts[2], ENOUGH),
+    },
+    Entry {
+        name: "derivation_data",
+        share: 40,
+        input: |random| Input {
+            parts: vec![card_number(random)],
+            number: sequence(random),
+        },
+        library: |i, out| lent::derivation_data(&i.parts[0], sequence_of(i), out),
+        second: |i| card::derivation_data(&i.parts[0], sequence_of(i)),
+    },
+    Entry {
+        name: "card_key",
+        share: 25,
+        input: |random| Input {
+            parts: vec![random.sized(16), card_number(random)],
+            number: sequence(random),
+        },
+        library: |i, out| lent::card_key(&i.parts[0], &i.parts[1], sequence_of(i), out),
+        second: |i| card::card_key(&i.parts[0], &i.parts[1], sequence_of(i)),
+    },
+    Entry {
+        name: "session_key",
+        share: 25,
+        input: |random| Input {
+            parts: vec![random.sized(16)],
+            number: random.next() % 65536,
+        },
+        library: |i, out| lent::session_key(&i.parts[0], transaction_counter(i), out),
+        second: |i| card::session_key(&i.parts[0], transaction_counter(i).to_be_bytes()),
+    },
+    Entry {
+        name: "arqc",
+        share: 25,
+        input: |random| parts(vec![random.sized(16), card_data(random)]),
+        library: |i, out| lent::arqc(&i.parts[0], &i.parts[1], out),
+        second: |i| card::arqc(&i.parts[0], &i.parts[1]),
+    },
+    Entry {
+        name: "arpc",
+        share: 25,
+        input: |random| parts(vec![random.sized(16), random.sized(8), random.sized(2)]),
+        library: |i, out| lent::arpc(&i.parts[0], &i.parts[1], &i.parts[2], out),
+        second: |i| card::arpc(&i.parts[0], &i.parts[1], &i.parts[2]),
+    },
+    Entry {
+        name: "initial_key",
+        share: 25,
+        input: |random| parts(vec![derivation_key(random), serial_number(random)]),
+        library: |i, out| lent::initial_key(&i.parts[0], &i.parts[1], out),
+        second: |i| dukpt::initial_key(&i.parts[0], &i.parts[1]),
+    },
+    Entry {
+        name: "host_key",
+        share: 30,
+        input: |random| parts(vec![derivation_key(random), serial_number(random)]),
+        library: |i, out| lent::host_key(&i.parts[0], &i.parts[1], out),
+        second: |i| dukpt::host_key(&i.parts[0], &i.parts[1]),
+    },
+    Entry {
+        name: "terminal_load",
+        share: 15,
+        input: |random| parts(vec![random.sized(8), serial_number(random)]),
+        library: |i, out| lent::terminal_load(&i.parts[0], &i.parts[1], out),
+        second: |i| {
+            let record = dukpt::terminal_load(&i.parts[0], &i.parts[1])?;
+            Ok(dukpt::to_bytes(&record))
+        },
+    },
+];

@@ -1,0 +1,264 @@
+//! The terminal's next key: records whole, damaged and damaged byte by byte, and the drain of one terminal.
+
+use crate::compare::{same_answer, Lent};
+use crate::entries::counter;
+use crate::random::Random;
+use chizuregwo::{lent, Error};
+use second::bytes::hex;
+use second::dukpt::{self, NextKey, Record, RECORD_BYTES, REGISTERS};
+use second::numbers::{require, EXHAUSTED, ROOM};
+
+/// Keys that a terminal gives.
+pub const ALL_KEYS: usize = 1_048_575;
+
+/// Which registers are filled when a counter is next (01, Terminal keys): its lowest one bit's, and those above it whose
+/// bit is 0.
+fn is_filled(counter: u32, b: usize) -> bool {
+    let lowest = counter.trailing_zeros() as usize;
+    b == lowest || b > lowest && counter >> b & 1 == 0
+}
+
+/// The record with a counter next and these keys in its filled registers.
+fn with_keys(serial: [u8; 10], counter: u32, key: impl Fn(usize) -> [u8; 8]) -> Record {
+    let filled = |b: &usize| is_filled(counter, *b);
+    Record {
+        keys: std::array::from_fn(|b| if filled(&b) { key(b) } else { [0; 8] }),
+        filled: (0..REGISTERS).filter(filled).map(|b| 1 << b).sum(),
+        serial: dukpt::with_counter(&serial, 0),
+        counter,
+        exhausted: false,
+    }
+}
+
+/// The record of an exhausted terminal.
+fn exhausted(serial: [u8; 10]) -> Record {
+    Record {
+        keys: [[0; 8]; REGISTERS],
+        filled: 0,
+        serial: dukpt::with_counter(&serial, 0),
+        counter: 0,
+        exhausted: true,
+    }
+}
+
+/// A permitted counter, often one with ten one bits or near the end.
+fn permitted(random: &mut Random) -> u32 {
+    let some = match random.below(8) {
+        0 => random.one_of(&[
+            1, 0x3FF, 0x400, 0x7FE, 0x800, 0x1F_F000, 0x1F_F800, 0x10_0000,
+        ]),
+        1 => 0x1F_F800 >> random.below(12),
+        _ => counter(random),
+    };
+    (some..)
+        .find(|counter| counter.count_ones() <= 10)
+        .expect("a permitted counter")
+}
+
+/// A record that hangs together, with any keys; once in eight an exhausted one.
+fn whole(random: &mut Random) -> Record {
+    let serial = random.array();
+    if random.once_in(8) {
+        return exhausted(serial);
+    }
+    let counter = permitted(random);
+    let keys: [[u8; 8]; REGISTERS] = std::array::from_fn(|_| random.array());
+    with_keys(serial, counter, |b| keys[b])
+}
+
+/// A record's bytes, half of them damaged.
+fn record_bytes(random: &mut Random) -> Vec<u8> {
+    let mut record = whole(random);
+    match random.below(16) {
+        0 => record.counter = random.next() as u32,
+        1 => record.counter = counter(random),
+        2 => record.filled ^= 1 << random.below(32),
+        3 => record.exhausted ^= true,
+        4 => record.serial[random.between(7, 9)] ^= 1 << random.below(8),
+        5 => record.keys[random.below(REGISTERS)] = random.array(),
+        _ => (),
+    }
+    let mut bytes = dukpt::to_bytes(&record);
+    match random.below(16) {
+        0 => bytes.resize(random.one_of(&[0, 1, 8, 186, 188, 200, 374]), 0),
+        1 => bytes[186] = random.next() as u8,
+        2 => random.spoil(&mut bytes, b"\0\x01\xFF"),
+        3 => bytes.fill(0),
+        _ => (),
+    }
+    bytes
+}
+
+/// What the second implementation gives for a record's bytes and two buffers: 6, 11, 12, 13.
+fn second_next_key(record: &[u8], key_room: usize, serial_room: usize) -> Result<NextKey, u8> {
+    let record = dukpt::from_bytes(record)?;
+    let next = dukpt::terminal_next_key(&record, key_room)?;
+    require(serial_room >= 10, ROOM)?;
+    Ok(next)
+}
+
+/// One call for the next key through both, every byte of the three buffers compared; gives the number.
+fn compare_call(
+    random: &mut Random,
+    bytes: &[u8],
+    key_room: usize,
+    serial_room: usize,
+) -> Result<u8, String> {
+    let expected = second_next_key(bytes, key_room, serial_room);
+    let mut record = Lent::new(random, bytes.len());
+    record.start_with(bytes);
+    let mut key = Lent::new(random, key_room);
+    let mut serial = Lent::new(random, serial_room);
+    let answer = lent::terminal_next_key(record.bytes(), key.bytes(), serial.bytes());
+    let same = || {
+        let answered = expected
+            .as_ref()
+            .map(|next| next.key.to_vec())
+            .map_err(|number| *number);
+        let number = same_answer(answer, &answered)?;
+        match &expected {
+            Ok(next) => {
+                record.holds(&dukpt::to_bytes(&next.record))?;
+                key.holds(&next.key)?;
+                serial.holds(&next.serial)?;
+            }
+            Err(_) => {
+                record.holds(&[])?;
+                key.holds(&[])?;
+                serial.holds(&[])?;
+            }
+        }
+        Ok(number)
+    };
+    same().map_err(|difference: String| {
+        format!(
+            "record {} key room {key_room} serial room {serial_room}: {difference}",
+            hex(bytes)
+        )
+    })
+}
+
+/// One call on a record, whole or damaged, with buffers of any room.
+pub fn compare(random: &mut Random) -> Result<u8, String> {
+    let bytes = record_bytes(random);
+    let key_room = random.one_of(&[8, 8, 8, 8, 9, 16, 30, 7, 0]);
+    let serial_room = random.one_of(&[10, 10, 10, 10, 11, 16, 30, 9, 0]);
+    compare_call(random, &bytes, key_room, serial_room)
+}
+
+/// One record damaged in each byte: each bit turned, then 0 and FF put there. Gives the numbers.
+pub fn byte_by_byte(random: &mut Random) -> Result<Vec<u8>, String> {
+    let whole = dukpt::to_bytes(&whole(random));
+    let mut numbers = Vec::new();
+    for place in 0..RECORD_BYTES {
+        let old = whole[place];
+        let turned = (0..8).map(|bit| old ^ 1 << bit);
+        for new in turned.chain([0, 0xFF]) {
+            let mut damaged = whole.clone();
+            damaged[place] = new;
+            numbers.push(compare_call(random, &damaged, 8, 10)?);
+        }
+    }
+    Ok(numbers)
+}
+
+/// What the second implementation says that a terminal's record holds when a counter is next: each filled register the
+/// register key of the counter's bits above it, plus its own.
+fn described(initial: [u8; 8], serial: [u8; 10], counter: u32) -> Record {
+    with_keys(serial, counter, |b| {
+        let above = counter >> b >> 1 << 1 << b;
+        dukpt::register_key(initial, &serial, above + (1 << b))
+    })
+}
+
+/// A terminal that is drained, with what the host knows of it.
+struct Drained {
+    derivation: [u8; 16],
+    serial: [u8; 10],
+    initial: [u8; 8],
+    record: [u8; RECORD_BYTES],
+}
+
+impl Drained {
+    /// A terminal just loaded.
+    fn loaded(random: &mut Random) -> Result<Drained, Error> {
+        let (derivation, serial) = (random.array(), random.array());
+        let initial = chizuregwo::initial_key(&derivation, &serial)?;
+        let mut record = [0; RECORD_BYTES];
+        lent::terminal_load(&initial, &serial, &mut record)?;
+        Ok(Drained {
+            derivation,
+            serial,
+            initial,
+            record,
+        })
+    }
+
+    /// Calls for the next key: it must come with this counter and be the library's host key.
+    fn call(&mut self, counter: u32) -> Result<(), String> {
+        let (mut key, mut serial) = ([0; 8], [0; 10]);
+        lent::terminal_next_key(&mut self.record, &mut key, &mut serial)
+            .map_err(|e| e.to_string())?;
+        if serial != dukpt::with_counter(&self.serial, counter) {
+            return Err(format!("given out with serial number {}", hex(&serial)));
+        }
+        let host = chizuregwo::host_key(&self.derivation, &serial).map_err(|e| e.to_string())?;
+        if key != host {
+            return Err(format!(
+                "key {} where the host has {}",
+                hex(&key),
+                hex(&host)
+            ));
+        }
+        Ok(())
+    }
+
+    /// Before a counter is given out: the record must be as described, and the second implementation's host key the
+    /// library's.
+    fn sample(&self, counter: u32) -> Result<(), String> {
+        let cleared = dukpt::with_counter(&self.serial, 0);
+        let described = dukpt::to_bytes(&described(self.initial, cleared, counter));
+        if self.record[..] != described {
+            return Err(format!(
+                "record {} where {} was to be",
+                hex(&self.record),
+                hex(&described)
+            ));
+        }
+        let serial = dukpt::with_counter(&self.serial, counter);
+        let library = chizuregwo::host_key(&self.derivation, &serial).map_err(|e| e.to_string())?;
+        let second = dukpt::host_key(&self.derivation, &serial);
+        if second != Ok(library.to_vec()) {
+            return Err(format!(
+                "host key {} where the second has {second:02X?}",
+                hex(&library)
+            ));
+        }
+        Ok(())
+    }
+}
+
+/// Loads a terminal and calls for so many keys: each must have the next permitted counter and be the library's host key;
+/// one in `sample` is compared with the second implementation's host key, and the record with its description. After the
+/// last key three more calls must be refused with 12 and change nothing. Gives how many were sampled.
+pub fn drain(random: &mut Random, keys: usize, sample: usize) -> Result<usize, String> {
+    let mut terminal = Drained::loaded(random).map_err(|e| format!("loading: {e}"))?;
+    let (derivation, serial) = (hex(&terminal.derivation), hex(&terminal.serial));
+    let permitted = (1..1 << 21).filter(|counter: &u32| counter.count_ones() <= 10);
+    for (n, counter) in permitted.take(keys).enumerate() {
+        let at = |difference| {
+            format!("drain, derivation key {derivation} serial number {serial} counter {counter:X}: {difference}")
+        };
+        if n % sample == 0 {
+            terminal.sample(counter).map_err(at)?;
+        }
+        terminal.call(counter).map_err(at)?;
+    }
+    for _ in 0..if keys == ALL_KEYS { 3 } else { 0 } {
+        let number = compare_call(random, &terminal.record, 8, 10)?;
+        if number != EXHAUSTED {
+            return Err(format!("drain: after the last key the number is {number}"));
+        }
+    }
+    Ok(keys.div_ceil(sample))
+}

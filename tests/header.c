@@ -1,0 +1,127 @@
+/* Calls every entry once through the header, as C declares it, on a published or marked case, and once refused. */
+#include <stdio.h>
+#include <string.h>
+
+#include "chizuregwo.h"
+
+static int cases, failures;
+static uint8_t out[256];
+
+/* The bytes that hexadecimal digits write; four results can be in use at once. */
+static const uint8_t *hex(const char *digits)
+{
+    static uint8_t results[4][64];
+    static int next;
+    uint8_t *bytes = results[next++ % 4];
+    for (size_t i = 0; i < strlen(digits) / 2; i++) {
+        unsigned byte;
+        sscanf(digits + 2 * i, "%2x", &byte);
+        bytes[i] = (uint8_t)byte;
+    }
+    return bytes;
+}
+
+static const uint8_t *text(const char *characters) { return (const uint8_t *)characters; }
+
+/* An answer must be done with these bytes, and the byte after them as it was; then the buffer is filled again. */
+static void same(const char *what, czg_answer answer, size_t size, const uint8_t *bytes)
+{
+    cases++;
+    if (answer.number != CZG_DONE || answer.length != size || memcmp(out, bytes, size) != 0 || out[size] != 0xA5) {
+        printf("header: FAILED: %s: number %u, length %u\n", what, (unsigned)answer.number, (unsigned)answer.length);
+        failures++;
+    }
+    memset(out, 0xA5, sizeof out);
+}
+
+/* An answer must be this refusal, and the buffer as it was. */
+static void refused(const char *what, czg_answer answer, uint32_t number)
+{
+    cases++;
+    int changed = 0;
+    for (size_t i = 0; i < sizeof out; i++)
+        changed |= out[i] != 0xA5;
+    if (answer.number != number || answer.length != 0 || changed) {
+        printf("header: FAILED: %s: number %u where %u was to be\n", what, (unsigned)answer.number, (unsigned)number);
+        failures++;
+    }
+    memset(out, 0xA5, sizeof out);
+}
+
+int main(void)
+{
+    static const char card_digits[] = "4219876543210987", message[] = "\x04\0\0\0" "0200";
+    const uint8_t *card = text(card_digits);
+    size_t room = sizeof out;
+    memset(out, 0xA5, room);
+
+    same("encrypt", czg_encrypt(hex("133457799BBCDFF1"), 8, hex("0123456789ABCDEF"), 8, out, room), 8, hex("85E813540F0AB405"));
+    same("decrypt", czg_decrypt(hex("133457799BBCDFF1"), 8, hex("85E813540F0AB405"), 8, out, room), 8, hex("0123456789ABCDEF"));
+    refused("encrypt", czg_encrypt(hex("133457799BBCDFF1"), 7, hex("0123456789ABCDEF"), 8, out, room), CZG_SIZE);
+    same("key_entry", czg_key_entry(text("0123456789abcDEF"), 16, 8, out, room), 8, hex("0123456789ABCDEF"));
+    refused("key_entry", czg_key_entry(text("0123456789abcDEG"), 16, 8, out, room), CZG_CHARACTER);
+    same("clean", czg_clean(text("a - b"), 5, out, room), 3, text("A B"));
+    same("message_text", czg_message_text(text(message), 8, out, room), 4, text("0200"));
+    refused("message_text, empty", czg_message_text(text(message), 0, out, room), CZG_CUT_SHORT);
+    refused("message_text, field 1", czg_message_text(text("\0\0\1\0"), 4, out, room), CZG_FIELD_ORDER);
+    refused("message_text, type", czg_message_text(text("\4\0\0\0" "0300"), 8, out, room), CZG_MESSAGE_TYPE);
+    refused("message_text, form", czg_message_text(text("\4\0\0\0" "02x0"), 8, out, room), CZG_FIELD_FORM);
+    same("text_mac", czg_text_mac(hex("0123456789ABCDEF"), 8, text(" -x- "), 5, out, room), 8, hex("C49CF44D534EFBC0"));
+    refused("text_mac", czg_text_mac(hex("0123456789ABCDEF"), 8, text("---"), 3, out, room), CZG_EMPTY_TEXT);
+    same("message_mac", czg_message_mac(hex("0123456789ABCDEF"), 8, text(message), 8, out, room), 8, hex("DB81035675C65160"));
+
+    same("pin_make", czg_pin_make(text("1234"), 4, out, room), 8, hex("041234FFFFFFFFFF"));
+    refused("pin_make, no room", czg_pin_make(text("1234"), 4, out, 7), CZG_SHORT_BUFFER);
+    same("pin_make_with_card", czg_pin_make_with_card(text("1234"), 4, card, 16, out, room), 8, hex("0412AC89ABCDEF67"));
+    same("pin_read", czg_pin_read(hex("041234FFFFFFFFFF"), 8, out, room), 4, text("1234"));
+    refused("pin_read", czg_pin_read(hex("03123FFFFFFFFFFF"), 8, out, room), CZG_NO_SUCH_PIN);
+    same("pin_read_with_card", czg_pin_read_with_card(hex("0412AC89ABCDEF67"), 8, card, 16, out, room), 4, text("1234"));
+    same("pin_encipher", czg_pin_encipher(text("1234"), 4, hex("0123456789ABCDEF"), 8, out, room), 8, hex("286344C32894AFB6"));
+    same("pin_encipher_with_card", czg_pin_encipher_with_card(text("1234"), 4, card, 16, hex("0123456789ABCDEF"), 8, out, room),
+         8, hex("864C0D7C2D6C8B94"));
+    same("pin_decipher", czg_pin_decipher(hex("286344C32894AFB6"), 8, hex("0123456789ABCDEF"), 8, out, room), 4, text("1234"));
+    same("pin_decipher_with_card", czg_pin_decipher_with_card(hex("864C0D7C2D6C8B94"), 8, card, 16, hex("0123456789ABCDEF"), 8, out, room),
+         4, text("1234"));
+
+    same("derivation_data", czg_derivation_data(text("6228000100001"), 13, 1, out, room), 8, hex("0622800010000101"));
+    same("card_key", czg_card_key(hex("F0C34A8124CEE0A91A0B034AA97D6EAC"), 16, text("6228000100001"), 13, 1, out, room),
+         16, hex("014D996FCC8F49157DC8B49E3BCDFD99"));
+    same("session_key", czg_session_key(hex("014D996FCC8F49157DC8B49E3BCDFD99"), 16, 0x0240, out, room),
+         16, hex("D4102725E6E5AD329E55AAB50BF23DA9"));
+    same("arqc", czg_arqc(hex("E57C032E6FE8AA94D0D72FF8E4D4DFBC"), 16,
+                          hex("0000000010000000000000000710000000000007101302050030901B6A3C00005503A4A082"), 37, out, room),
+         8, hex("6BC76F457CC4FB24"));
+    same("arpc", czg_arpc(hex("D4102725E6E5AD329E55AAB50BF23DA9"), 16, hex("5D016C91005E7CC2"), 8, text("01"), 2, out, room),
+         8, hex("21415243527CE78F"));
+
+    const char *derivation = "51525457585B5D5E61626467686B6D6E", *serial = "0123456789ABCDF00001";
+    same("initial_key", czg_initial_key(hex(derivation), 16, hex(serial), 10, out, room), 8, hex("21EE7C08DBE820AB"));
+    same("host_key", czg_host_key(hex(derivation), 16, hex(serial), 10, out, room), 8, hex("670B395E6CFB60C2"));
+    refused("host_key, halves", czg_host_key(hex("51525457585B5D5E51525457585B5D5E"), 16, hex(serial), 10, out, room), CZG_EQUAL_HALVES);
+    refused("host_key, counter", czg_host_key(hex(derivation), 16, hex("0123456789ABCDE00000"), 10, out, room), CZG_COUNTER);
+
+    /* The terminal's first key is the host's for counter 1; its record has its parts where the header says. */
+    uint8_t record[CZG_RECORD_SIZE], host[8], number[CZG_SERIAL_NUMBER_SIZE] = {0};
+    czg_answer loaded = czg_terminal_load(hex("21EE7C08DBE820AB"), 8, hex(serial), 10, record, sizeof record);
+    memcpy(out, record + CZG_RECORD_SERIAL_NUMBER, 10);
+    loaded.length = loaded.length == CZG_RECORD_SIZE ? 10 : 0;
+    same("terminal_load", loaded, 10, hex("0123456789ABCDE00000"));
+    memcpy(out, record + CZG_RECORD_FILLED, 4);
+    loaded.length = 4;
+    same("filled mask", loaded, 4, hex("001FFFFF"));
+    czg_host_key(hex(derivation), 16, hex("0123456789ABCDE00001"), 10, host, 8);
+    refused("next_key, no room", czg_terminal_next_key(record, sizeof record, out, 8, number, 9), CZG_SHORT_BUFFER);
+    same("next_key", czg_terminal_next_key(record, sizeof record, out, room, number, sizeof number), 8, host);
+    memcpy(out, number, 10);
+    same("serial number", (czg_answer){CZG_DONE, 10}, 10, hex("0123456789ABCDE00001"));
+    memcpy(out, record + CZG_RECORD_COUNTER, 4);
+    same("counter", (czg_answer){CZG_DONE, 4}, 4, hex("00000002"));
+    memset(record, 0, sizeof record);
+    refused("next_key, zeros", czg_terminal_next_key(record, sizeof record, out, 8, number, 10), CZG_RECORD);
+    record[CZG_RECORD_EXHAUSTED] = 1;
+    refused("next_key, exhausted", czg_terminal_next_key(record, sizeof record, out, 8, number, 10), CZG_EXHAUSTED);
+
+    if (failures == 0)
+        printf("header: %d calls are as they must be\n", cases);
+    return failures != 0;
+}
