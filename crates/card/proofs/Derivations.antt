@@ -11,13 +11,11 @@ use lib.Dec.{leb, lit<}
 use lib.ListN.{length, take, drop, replicate, length-append, length-map, length-replicate, length-drop, take-append-drop}
 use lib.Seq.{length-take-le}
 use Rattle.lent.proofs.Parts.{from-append, from-zeros}
-use Rattle.lent.proofs.Lists.{all-append, all-replicate, all-drop}
-use Rattle.lent.proofs.Results.{require-zero}
+use Rattle.lent.proofs.Lists.{all-map, all-append, all-replicate, all-drop}
 use Rattle.lent.specs.CardNumbers.{cardSize}
 use Rattle.lent.specs.Choice.{all, between}
 use Rattle.lent.specs.Characters.{digit, digitValue}
-use Rattle.lent.specs.Numbers.{size, character}
-use Rattle.lent.specs.Result.{done, number, fixed, require}
+use Rattle.lent.specs.Result.{done}
 use Rattle.lent.specs.Words.{fromBase, toBase, wordBytes}
 use Rattle.lent.proofs.Bases.{Digits, from-lt}
 use Rattle.lent.proofs.Laws.{cases, both-true, between-true, within}
@@ -27,10 +25,8 @@ use Rattle.card.specs.Entries.{derivationData}
 -- ---- each digit is 0 to 9
 
 number-decimal : (card : List ℕ) → all digit card ≡ true → all (between 0 9) (map digitValue card) ≡ true
-number-decimal [] e = refl
-number-decimal (x ∷ s) e =
-    let h = both-true (digit x) (all digit s) e in
-    rw (within 0 9 (digitValue x) (omega arith) (omega (arith, between-true 48 57 x (h .0)))) (number-decimal s (h .1))
+number-decimal =
+    all-map digit (between 0 9) digitValue (λ x e. within 0 9 (digitValue x) (omega arith) (omega (arith, between-true 48 57 x e)))
 
 sequence-decimal : (sequence : ℕ) → all (between 0 9) (toBase 10 2 sequence) ≡ true
 unfolding toBase
@@ -88,7 +84,7 @@ module _ (b n : ℕ) (s : List ℕ) where
       ∙ rw t)
 
   -- what is left of the number below the base to the power n
-  pub rightmost-word : Digits b (rightmost n s) → fromBase b n (rightmost n s) ≡ fromBase b (length s) s % b ^ n
+  rightmost-word : Digits b (rightmost n s) → fromBase b n (rightmost n s) ≡ fromBase b (length s) s % b ^ n
   rightmost-word d =
       let lt = from-lt b n (rightmost n s) d in
       cases (leb (length s) n)
@@ -115,14 +111,3 @@ pub derived : (card : List ℕ) (sequence : ℕ) → cardSize card ≡ true → 
     → derivationData card sequence ≡ done (wordBytes (derivationWord card sequence))
 unfolding derivationData
 derived card sequence s q d = simp (s, q, d)
-
--- an answer whose number is 0 is done, with its value
-pub derived-bytes : (card : List ℕ) (sequence : ℕ) {value : List ℕ}
-    → 0 ≡ number (derivationData card sequence) → value ≡ fixed 8 (derivationData card sequence) → derivationData card sequence ≡ done value
-unfolding derivationData
-derived-bytes card sequence e v =
-    let y = done (wordBytes (derivationWord card sequence)) in
-    let h = require-zero (cardSize card) size (require (sequenceRange sequence) size (require (all digit card) character y)) (lit< tt) e in
-    let i = require-zero (sequenceRange sequence) size (require (all digit card) character y) (lit< tt) (h .1) in
-    let j = require-zero (all digit card) character y (lit< tt) (i .1) in
-    simp (h .0, i .0, j .0) (ap done (sym (simp (h .0, i .0, j .0) at v)))

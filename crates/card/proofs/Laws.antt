@@ -1,11 +1,11 @@
--- Laws that callers cite: padding, and Y of a permitted card number and sequence.
+-- Laws that callers and readers cite: padding, Y of a permitted card number and sequence, and that no refusal has the number 0.
 use mathlib.Core.Path.{_≡_, sym, ap, _∙_}
 use mathlib.Core.Bool.{true}
 use mathlib.Core.List.{List, _∷_}
 use Prim.Native.Nat.{ℕ, suc, _+_, _-_, _%_, _<_, _≤_}
 use native.Mathlib.Nat.{mod-eq-of-lt}
 use native.Mathlib.Omega.{arith}
-use lib.Dec.{lit<}
+use lib.Dec.{lit<, eqb}
 use lib.ListN.{length, getD, take, replicate}
 use lib.Seq.{take-append-seam, getD-append-seam, getD-append-add}
 use Rattle.lent.proofs.Lists.{zeros-at}
@@ -15,8 +15,10 @@ use Rattle.lent.specs.Characters.{digit}
 use Rattle.lent.specs.Result.{done}
 use Rattle.lent.specs.Words.{fromBase, toBase, word, wordBytes}
 use Rattle.lent.proofs.Bases.{to-length, to-from, from-to, from-lt}
+use Rattle.lent.proofs.Results.{Numbered, done-numbered, then-numbered, size-numbered, character-numbered}
 use Rattle.card.specs.Derivation.{sequenceRange, cardDigits, rightmost, derivationWord}
-use Rattle.card.specs.Entries.{derivationData}
+use Rattle.card.specs.DoubleKey.{doubleSize}
+use Rattle.card.specs.Entries.{derivationData, cardKey, sessionKey, arqc, arpc}
 use Rattle.card.specs.Padding.{padded}
 use Rattle.card.proofs.Derivations.{digits-decimal, half-bytes, rightmost-length, derived}
 use Rattle.card.proofs.Paddings.{padded-length}
@@ -86,3 +88,30 @@ permitted card sequence s q d =
       digits = same;
       decimal = rw same decimal;
     }
+
+-- ---- no refusal has the number 0
+
+pub derivation-numbered : (card : List ℕ) (sequence : ℕ) → Numbered (derivationData card sequence)
+unfolding derivationData
+derivation-numbered card sequence =
+    size-numbered (cardSize card) (size-numbered (sequenceRange sequence) (character-numbered (all digit card) (done-numbered _)))
+
+pub card-key-numbered : (master card : List ℕ) (sequence : ℕ) → Numbered (cardKey master card sequence)
+unfolding cardKey
+card-key-numbered master card sequence =
+    size-numbered (doubleSize master)
+    (then-numbered (derivationData card sequence) _ (derivation-numbered card sequence) (λ y. done-numbered _))
+
+pub session-key-numbered : (key : List ℕ) (counter : ℕ) → Numbered (sessionKey key counter)
+unfolding sessionKey
+session-key-numbered key counter = size-numbered (doubleSize key) (done-numbered _)
+
+pub arqc-numbered : (key cardData : List ℕ) → Numbered (arqc key cardData)
+unfolding arqc
+arqc-numbered key cardData = size-numbered (doubleSize key) (size-numbered (between 1 255 (length cardData)) (done-numbered _))
+
+pub arpc-numbered : (key cryptogram code : List ℕ) → Numbered (arpc key cryptogram code)
+unfolding arpc
+arpc-numbered key cryptogram code =
+    size-numbered (doubleSize key)
+    (size-numbered (eqb (length cryptogram) 8) (size-numbered (eqb (length code) 2) (done-numbered _)))

@@ -1,5 +1,4 @@
 -- Laws for the callers: Laws. The others are steps of the proofs.
 pub mod Laws
 mod Derivations
-mod Marked
 mod Paddings

@@ -4,8 +4,8 @@ use Prim.Native.Nat.{ℕ}
 use lib.Bits.{bitXor}
 use lib.ListN.{replicate}
 use Rattle.lent.specs.Words.{word, left, right}
+use Rattle.keyed.specs.Keyed.{enciphered}
 use Rattle.card.specs.Algorithm3.{macAlgorithm3}
-use Rattle.card.specs.DoubleKey.{enciphered}
 use Rattle.card.specs.Padding.{padded}
 
 -- the ARQC: algorithm 3 over the padded data

@@ -1,19 +1,15 @@
--- Keys of 16 bytes and triple DES under them (01, The job and its edge).
+-- Keys of 16 bytes, and those that triple DES under them gives (01, The card's keys and cryptograms).
 use mathlib.Core.Bool.{Bool}
 use mathlib.Core.List.{List, _++_}
 use Prim.Native.Nat.{ℕ}
 use lib.Dec.{eqb}
 use lib.ListN.{length}
-use Rattle.lent.specs.Words.{left, right, wordBytes}
-use Rattle.cipher.specs.Triple.{tripleEncrypted}
+use Rattle.lent.specs.Words.{wordBytes}
+use Rattle.keyed.specs.Keyed.{enciphered}
 
 -- a key has 16 bytes
-abbrev pub keySize : List ℕ → Bool
-keySize key = eqb (length key) 16
-
--- a block under triple DES
-abbrev pub enciphered : List ℕ → ℕ → ℕ
-enciphered key block = tripleEncrypted (left key) (right key) block
+abbrev pub doubleSize : List ℕ → Bool
+doubleSize key = eqb (length key) 16
 
 -- the key that two blocks give: triple DES of the first, then of the second
 abbrev pub derivedKey : List ℕ → ℕ → ℕ → List ℕ

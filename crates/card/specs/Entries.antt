@@ -11,7 +11,7 @@ use Rattle.lent.specs.Result.{Result, done, require, andThen}
 use Rattle.lent.specs.Words.{word, wordBytes}
 use Rattle.card.specs.Cryptograms.{arqcWord, arpcWord}
 use Rattle.card.specs.Derivation.{sequenceRange, derivationWord}
-use Rattle.card.specs.DoubleKey.{keySize, derivedKey}
+use Rattle.card.specs.DoubleKey.{doubleSize, derivedKey}
 use Rattle.card.specs.Session.{counterBytes}
 use Rattle.card.specs.Turned.{turned}
 
@@ -26,27 +26,27 @@ derivationData card sequence =
 -- the card key: triple DES of Y, then of Y with all bits turned, under the master key
 unfoldable pub cardKey : List ℕ → List ℕ → ℕ → Result (List ℕ)
 cardKey master card sequence =
-    require (keySize master) size
+    require (doubleSize master) size
     (andThen (derivationData card sequence) (λ y. done (derivedKey master (word y) (turned 64 (word y)))))
 
 -- the session key: triple DES of the counter with six zero bytes before it, then of the same with the counter's bits turned, under the
 -- card key
 unfoldable pub sessionKey : List ℕ → ℕ → Result (List ℕ)
 sessionKey key counter =
-    require (keySize key) size
+    require (doubleSize key) size
     (done (derivedKey key (word (counterBytes counter)) (word (counterBytes (turned 16 counter)))))
 
 -- the ARQC of 1 to 255 bytes of card data
 unfoldable pub arqc : List ℕ → List ℕ → Result (List ℕ)
 arqc key cardData =
-    require (keySize key) size
+    require (doubleSize key) size
     (require (between 1 255 (length cardData)) size
     (done (wordBytes (arqcWord key cardData))))
 
 -- the ARPC of an ARQC of 8 bytes and a code of 2
 unfoldable pub arpc : List ℕ → List ℕ → List ℕ → Result (List ℕ)
 arpc key cryptogram code =
-    require (keySize key) size
+    require (doubleSize key) size
     (require (eqb (length cryptogram) 8) size
     (require (eqb (length code) 2) size
     (done (wordBytes (arpcWord key cryptogram code)))))

@@ -1,5 +1,4 @@
 // The cryptograms of a transaction.
-use crate::double_key::encipher;
 ghost use mathlib.Core.Path.{_≡_};
 ghost use Prim.Native.Nat.{_+_, _*_, _/_, _≤_};
 ghost use lib.ListN.{length, take};
@@ -22,12 +21,11 @@ fn padded_bytes(data: &[u8]) -> [u8; 256]
 
 // The ARQC: algorithm 3 of ISO/IEC 9797-1 over the padded data.
 fn arqc_word(key: &[u8], data: &[u8]) -> u64
-    requires { ⌜ length (now key) ≡ 16 ⌝ }
     requires { ⌜ length (now «data») ≤ 255 ⌝ }
     ensures { λ r. ⌜ r ≡ arqcWord (now (key .entry)) (now («data» .entry)) ⌝ }
 {
     let left = lent::word_of(key);
-    let right = lent::word_of(&key[8..]);
+    let right = lent::right_half(key);
     let bytes = padded_bytes(data);
     let size = 8 * (data.len() / 8 + 1);
     let chain = chaining::chained(left, &bytes[..size]);
@@ -63,5 +61,6 @@ pub fn arpc(session_key: &[u8], arqc: &[u8], code: &[u8]) -> lent::Block
     if code.len() != 2 {
         return lent::refused_block(lent::SIZE);
     }
-    lent::block_of(encipher(session_key, lent::word_of(arqc) ^ lent::word_of(code)))
+    let block = lent::word_of(arqc) ^ lent::word_of(code);
+    lent::block_of(keyed::encipher_word(session_key, block))
 }

@@ -1,20 +1,16 @@
 // The card key and the session key.
 use crate::derivation::derivation_data;
-use crate::double_key::encipher;
-ghost use mathlib.Core.Path.{_≡_};
-ghost use lib.ListN.{length};
 ghost use Rattle.lent.specs.Result.{Answered, done};
 ghost use Rattle.card.specs.DoubleKey.{derivedKey};
 ghost use Rattle.card.specs.Entries;
 
 // The key that two blocks give: triple DES of each.
 fn derived_key(key: &[u8], first: u64, second: u64) -> lent::DoubleBlock
-    requires { ⌜ length (now key) ≡ 16 ⌝ }
     ensures { λ r. ⌜ Answered 16 (done (derivedKey (now (key .entry)) first second)) (r .number) (r .value) ⌝ }
 {
     let mut value = [0u8; 16];
-    lent::lend_word(encipher(key, first), &mut value);
-    lent::lend_word(encipher(key, second), &mut value[8..]);
+    lent::lend_word(keyed::encipher_word(key, first), &mut value);
+    lent::lend_word(keyed::encipher_word(key, second), &mut value[8..]);
     lent::DoubleBlock {
         number: lent::DONE,
         value,

@@ -1,7 +1,6 @@
 // A card's keys and the cryptograms of its transactions (01, The card's keys and cryptograms).
 mod cryptograms;
 mod derivation;
-mod double_key;
 mod keys;
 
 pub use cryptograms::arpc;

@@ -32,7 +32,7 @@ digits-take n s h d k =
     (λ l. rw (List·getD-eq-default (take n s) 0 {n = k} (omega (arith, length-take-le n s h))) (lit< tt))
 
 -- bytes that were read as a number are written back
-pub bytes-back : (n : ℕ) (s : List ℕ) → n ≤ length s → Digits 256 s → toBase 256 n (fromBase 256 n s) ≡ take n s
+bytes-back : (n : ℕ) (s : List ℕ) → n ≤ length s → Digits 256 s → toBase 256 n (fromBase 256 n s) ≡ take n s
 bytes-back n s h d =
     let long = length-take-le n s h in
     ap (λ (x : List ℕ). toBase 256 n (fromBase 256 n x)) (sym (take-append-drop n s))

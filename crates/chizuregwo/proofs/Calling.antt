@@ -16,7 +16,7 @@ use Rattle.terminal.specs.Promises.{Load, loading, Next, NextNumber}
 use Rattle.terminal.specs.Promises as promises
 use Rattle.terminal.specs.declared.loading.Loaded.{Loaded}
 use Rattle.terminal.specs.declared.calls.NextKey.{NextKey}
-use Rattle.terminal.proofs.Records.{on-done, load-cases}
+use Rattle.terminal.proofs.Laws.{on-done, load-cases}
 use Rattle.chizuregwo.specs.RecordBytes.{recordSize, recordBytes, terminalOf, ValidBytes}
 use Rattle.chizuregwo.specs.Calls.{loadedBytes, CallNumber, invalid, exhausted, short, given, Called, nextKey}
 use Rattle.chizuregwo.proofs.AnswerLaws.{lent-all, over-whole}

@@ -1,5 +1,5 @@
--- What other crates and readers cite: a record's bytes and the record give each other back, bytes are a valid record exactly if they are those of
--- one, any other 187 bytes are 11, exactly one number applies to a call, and a call in bytes is a call of `next_key`.
+-- What readers cite: a record's bytes and the record give each other back, bytes are a valid record exactly if they are those of one, any other
+-- 187 bytes are 11, exactly one number applies to a call, and a call in bytes is a call of `next_key`.
 use mathlib.Core.Path.{_≡_, refl, sym, ap, _∙_}
 use mathlib.Core.Bool.{Bool, true, false, false≢true}
 use mathlib.Core.Logic.{_⊎_, inl, inr, _↔_, Dec·and}
@@ -7,7 +7,7 @@ use mathlib.Core.List.{List, [], _∷_, _++_, append-assoc}
 use Prim.Native.Nat.{ℕ, _^_, _≤_, _<_}
 use native.Mathlib.Decide.{decLt, decLe, ℕ-discrete, map-dec}
 use native.Mathlib.Omega.{arith}
-use lib.Dec.{eqb}
+use lib.Dec.{eqb, lit<}
 use lib.ListN.{length, getD, take, drop, replicate, length-append, length-drop, take-append-drop, drop-of-length-le}
 use lib.Seq.{take-at, drop-at, getD-at, take-add, drop-cons, length-take-le}
 use Rattle.lent.specs.Choice.{pick}
@@ -21,9 +21,9 @@ use Rattle.terminal.specs.Promises.{NextNumber, onDone, Next}
 use Rattle.terminal.specs.Promises as promises
 use Rattle.terminal.specs.declared.state.Terminal.{Terminal}
 use Rattle.terminal.specs.declared.calls.NextKey.{NextKey}
-use Rattle.terminal.proofs.Laws.{valid?}
+use Rattle.terminal.proofs.Laws.{valid?, on-refused}
 use Rattle.chizuregwo.specs.RecordBytes.{recordSize, registerBytes, numberBytes, exhaustedByte, recordBytes, Fits, registersOf, numberOf, terminalOf, ValidBytes}
-use Rattle.chizuregwo.specs.Calls.{CallNumber, wrong-size, invalid, exhausted, short, given, Called}
+use Rattle.chizuregwo.specs.Calls.{CallNumber, wrong-size, invalid, exhausted, short, given, Called, nextKey}
 use Rattle.chizuregwo.proofs.Bytes.{number-back, bytes-back-at, register-length, registers-back, register-bytes-back, registers-length, registers-lt, number-lt, exhausted-back, exhausted-le, exhausted-byte-back}
 
 -- ---- writing, then reading
@@ -233,41 +233,55 @@ pick-over : (b : Bool) (x y s : List ℕ) → pick b (over x s) s ≡ pick b (ov
 pick-over true x y s = refl
 pick-over false x y s = refl
 
--- With the bytes of a record t that fits its types and a serial buffer of at least 10, the call is one of `next_key` with t: the number is its
--- answer's, the key buffer its buffer, and the bytes left those of the record that it returns. So demand 3 holds of such calls too.
-pub record IsNext (t : Terminal) (key serial : List ℕ) (num : ℕ) (sAfter keyAfter serialAfter : List ℕ) : Type 0 where
+-- The call with the bytes of a record t is one of `next_key` with t and a buffer: the number is its answer's, the bytes left are those of the
+-- record that it returns, and the serial number that it gives stands in the serial buffer.
+pub record IsNext (t : Terminal) (buffer serial : List ℕ) (num : ℕ) (sAfter bufferAfter serialAfter : List ℕ) : Type 0 where
   pub answer : NextKey
-  pub promise : Next t key answer keyAfter
+  pub promise : Next t buffer answer bufferAfter
   pub number : num ≡ answer .number
   pub state : sAfter ≡ recordBytes (answer .terminal)
   pub serial-number : serialAfter ≡ onDone num (over (answer .serial) serial) serial
 
-pub called-next : (t : Terminal) → Fits t → (key serial sAfter keyAfter serialAfter : List ℕ) (num len : ℕ)
-    → Called (recordBytes t) key serial num len sAfter keyAfter serialAfter → 10 ≤ length serial → IsNext t key serial num sAfter keyAfter serialAfter
-called-next t fits key serial sAfter keyAfter serialAfter num len call long = record {
-  answer = answer;
-  promise = record { number = numbered num (call .number); counter = refl; serial = refl; terminal = refl; memory = rw back at (call .key-memory) };
-  number = refl;
-  state = rw back at (call .state) ∙ pick-ap (eqb num 0) recordBytes (afterKey t) t;
-  serial-number = rw back at (call .serial-memory) ∙ pick-over (eqb num 0) (withCounter (t .serial) (t .counter)) (replicate 10 0) serial;
-}
-  where
-    back : terminalOf (recordBytes t) ≡ t
-    back = read-written t fits
+module _ (t : Terminal) (fits : Fits t) (key serial sAfter keyAfter serialAfter : List ℕ) (num len : ℕ)
+    (call : Called (recordBytes t) key serial num len sAfter keyAfter serialAfter) where
+  back : terminalOf (recordBytes t) ≡ t
+  back = read-written t fits
 
-    answer : NextKey
-    answer =
-        record {
-          number = num;
-          counter = onDone num (t .counter) 0;
-          serial = onDone num (withCounter (t .serial) (t .counter)) (replicate 10 0);
-          terminal = onDone num (afterKey t) t;
-        }
+  -- with a buffer for which the number applies
+  as-next : (buffer bufferAfter : List ℕ) → NextNumber t (length buffer) num → bufferAfter ≡ onDone num (over (nextKey t) buffer) buffer
+      → IsNext t buffer serial num sAfter bufferAfter serialAfter
+  as-next buffer bufferAfter why memory = record {
+    answer = record {
+      number = num;
+      counter = onDone num (t .counter) 0;
+      serial = onDone num (withCounter (t .serial) (t .counter)) (replicate 10 0);
+      terminal = onDone num (afterKey t) t;
+    };
+    promise = record { number = why; counter = refl; serial = refl; terminal = refl; memory = memory };
+    number = refl;
+    state = rw back at (call .state) ∙ pick-ap (eqb num 0) recordBytes (afterKey t) t;
+    serial-number = rw back at (call .serial-memory) ∙ pick-over (eqb num 0) (withCounter (t .serial) (t .counter)) (replicate 10 0) serial;
+  }
 
-    numbered : (n : ℕ) → CallNumber (recordBytes t) (length key) (length serial) n → NextNumber t (length key) n
-    numbered n (wrong-size l) = absurd (l (written-length t fits))
-    numbered n (invalid l v) = promises.invalid (λ ok. v (written-valid t fits ok))
-    numbered n (exhausted l v e) = promises.exhausted (rw back at (v .hangs-together)) (rw back at e)
-    numbered n (short l v e (inl h)) = promises.short (rw back at (v .hangs-together)) (rw back at e) h
-    numbered n (short l v e (inr h)) = absurd (omega arith)
-    numbered n (given l v e h i) = promises.given (rw back at (v .hangs-together)) (rw back at e) h
+  -- with room for the serial number, the key buffer is its buffer
+  pub called-next : 10 ≤ length serial → IsNext t key serial num sAfter keyAfter serialAfter
+  called-next long = as-next key keyAfter (numbered (call .number)) (rw back at (call .key-memory))
+    where
+      numbered : {n : ℕ} → CallNumber (recordBytes t) (length key) (length serial) n → NextNumber t (length key) n
+      numbered (wrong-size l) = absurd (l (written-length t fits))
+      numbered (invalid l v) = promises.invalid (λ ok. v (written-valid t fits ok))
+      numbered (exhausted l v e) = promises.exhausted (rw back at (v .hangs-together)) (rw back at e)
+      numbered (short l v e (inl h)) = promises.short (rw back at (v .hangs-together)) (rw back at e) h
+      numbered (short l v e (inr h)) = absurd (omega arith)
+      numbered (given l v e h i) = promises.given (rw back at (v .hangs-together)) (rw back at e) h
+
+  -- without it, the call is refused as one with an empty buffer is
+  pub called-short : length serial < 10 → IsNext t [] serial num sAfter [] serialAfter
+  called-short few = let k = numbered (call .number) in as-next [] [] (k .0) (sym (on-refused _ _ (k .1)))
+    where
+      numbered : {n : ℕ} → CallNumber (recordBytes t) (length key) (length serial) n → NextNumber t 0 n × ¬ (n ≡ 0)
+      numbered (wrong-size l) = absurd (l (written-length t fits))
+      numbered (invalid l v) = (promises.invalid (λ ok. v (written-valid t fits ok)), λ z. omega arith)
+      numbered (exhausted l v e) = (promises.exhausted (rw back at (v .hangs-together)) (rw back at e), λ z. omega arith)
+      numbered (short l v e h) = (promises.short (rw back at (v .hangs-together)) (rw back at e) (lit< tt), λ z. omega arith)
+      numbered (given l v e h i) = absurd (omega arith)

@@ -1,8 +1,8 @@
--- Laws for the callers: Laws. The others are steps of the proofs.
+-- What readers cite: Laws, and Theorem for demand 3. The others are steps of the proofs.
 mod AnswerLaws
-mod Refusals
 mod Lengths
 mod Writing
 mod Calling
 mod Bytes
+pub mod Theorem
 pub mod Laws

@@ -1,32 +1,21 @@
 -- A record's bytes as they are written and read, register by register and part by part.
 use mathlib.Core.Path.{_≡_, ap, _∙_}
 use mathlib.Core.List.{List, _++_, append-assoc}
-use Prim.Native.Nat.{ℕ, suc, _+_, _-_, _*_, _≤_, _<_}
+use Prim.Native.Nat.{ℕ, suc, _+_, _-_, _*_, _<_}
 use native.Mathlib.Numerals.{add-one}
 use native.Mathlib.Omega.{arith}
 use lib.Dec.{eqb}
-use lib.ListN.{length, getD, set, take, drop, length-append, drop-of-length-le}
-use lib.Seq.{take-at, length-take-le, take-suc-set, drop-drop, set-split}
+use lib.ListN.{length, getD, set, take, drop, drop-of-length-le}
+use lib.Seq.{take-suc-set, drop-drop, set-split}
 use Rattle.lent.proofs.Lists.{part-rest}
-use Rattle.lent.specs.Result.{done, Written}
 use Rattle.lent.specs.Words.{word, wordBytes}
 use Rattle.lent.proofs.Laws.{drop-next}
 use Rattle.lent.proofs.Bases.{to-length}
 use Rattle.terminal.specs.declared.state.Terminal.{Terminal}
 use Rattle.chizuregwo.specs.RecordBytes.{registerBytes, registersOf, numberBytes, numberOf, exhaustedByte, recordBytes, terminalOf}
 use Rattle.chizuregwo.specs.Private.{Put}
-use Rattle.chizuregwo.proofs.AnswerLaws.{lent-all}
 
--- a value lent to the part of memory behind the first n bytes stands there
-pub put-part : (v s part t rest : List ℕ) (n : ℕ) {num len : ℕ} → n ≤ length s → length v ≤ length part → Written (done v) part num len t
-    → Put v s (take n s ++ (t ++ rest)) n
-put-part v s part t rest n at fits lent =
-    let left = drop (length v) part in
-    let memory = lent-all v part fits lent in
-    let long : length (take n s ++ v) ≡ n + length v = rw (length-append, length-take-le) in
-    rw (memory, append-assoc v left rest, ← append-assoc (take n s) v (left ++ rest))
-    (take-at (take n s ++ v) (left ++ rest) (n + length v) long)
-
+-- a value that is put is the same as another
 pub put-as : (before after : List ℕ) (n : ℕ) {v w : List ℕ} → v ≡ w → Put v before after n → Put w before after n
 put-as before after n e p = rw e at p
 

@@ -1,4 +1,4 @@
-pub mod Ciphers
 pub mod RecordBytes
 pub mod Calls
+pub mod Demand
 pub mod Private

@@ -13,7 +13,7 @@ fn put(bytes: &mut [u8], n: usize, value: &[u8])
     requires { ⌜ n + length (now value) ≤ length (now bytes) ⌝ }
     ensures { λ _. ⌜ Put (now (value .entry)) (now (bytes .entry)) (now (bytes .exit)) n ⌝ }
 {
-    lent::lend(value, &mut bytes[n..]);
+    lent::append(bytes, n, value);
 }
 
 // Writes the registers, 8 bytes each.

@@ -48,8 +48,8 @@ pub extern "C" fn czg_terminal_next_key(
         return refused(lent::SHORT_BUFFER);
     }
     lent::lend(&block, key);
-    let number = next.serial;
-    lent::lend(&number, serial);
+    let given = next.serial;
+    lent::lend(&given, serial);
     put_record(next.terminal, record);
     Answer {
         number: 0,

@@ -5,10 +5,10 @@ use native.Mathlib.Omega.{arith}
 use lib.Arith.{bin-ind}
 use lib.Bits.{bitXor, xor-add-and, xor-self, xor-shr, xor-zero-l, xor-zero-r}
 
-pub xor-half : (a b : ℕ) → bitXor a b / 2 ≡ bitXor (a / 2) (b / 2)
+xor-half : (a b : ℕ) → bitXor a b / 2 ≡ bitXor (a / 2) (b / 2)
 xor-half a b = xor-shr a b 1
 
-pub xor-odd : (a b : ℕ) → bitXor a b % 2 ≡ (a + b) % 2
+xor-odd : (a b : ℕ) → bitXor a b % 2 ≡ (a + b) % 2
 xor-odd a b = omega (arith, xor-add-and a b)
 
 -- numbers with the same half and the same last bit are the same
@@ -28,7 +28,7 @@ assoc-step a b c ih =
     let right = xor-half a (bitXor b c) ∙ ap (bitXor (a / 2)) (xor-half b c) in
     same _ _ (left ∙ ih ∙ sym right) (assoc-odd a b c)
 
-pub xor-assoc : (a b c : ℕ) → bitXor (bitXor a b) c ≡ bitXor a (bitXor b c)
+xor-assoc : (a b c : ℕ) → bitXor (bitXor a b) c ≡ bitXor a (bitXor b c)
 xor-assoc =
     bin-ind (λ (a : ℕ). (b c : ℕ) → bitXor (bitXor a b) c ≡ bitXor a (bitXor b c))
     (λ b c. ap (λ (x : ℕ). bitXor x c) (xor-zero-l b) ∙ sym (xor-zero-l (bitXor b c)))

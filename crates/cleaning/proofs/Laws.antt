@@ -82,7 +82,7 @@ module _ (x : ℕ) (s : List ℕ) (no-space : capitalized x ≡ 32 → ⊥) (sta
       (λ k. simp (n, k) (pass-some p started owed)))
 
   -- a text with a character that stays and is no space has a cleaned text that is not empty
-  pub cleaned-some : (p : List ℕ) → 0 < length (cleaned (p ++ x ∷ s))
+  cleaned-some : (p : List ℕ) → 0 < length (cleaned (p ++ x ∷ s))
   cleaned-some p = rw cleaned-pass (pass-some p 0 0)
 
 -- so has a text with a digit

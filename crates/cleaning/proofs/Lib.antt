@@ -1,3 +1,2 @@
-mod Example
 mod Pass
 pub mod Laws

@@ -4,7 +4,7 @@ use mathlib.Core.List.{List, [], _∷_, map}
 use Prim.Native.Nat.{ℕ}
 use lib.Dec.{leb, eqb}
 use lib.ListN.{length}
-use Rattle.lent.specs.Choice.{both, either, pick}
+use Rattle.lent.specs.Choice.{both, either, pick, only}
 use Rattle.lent.specs.Characters.{capital, digit, capitalized}
 use Rattle.lent.specs.Numbers.{size}
 use Rattle.lent.specs.Result.{Result, done, require}
@@ -31,8 +31,7 @@ kept x = either (capital x) (either (digit x) (either (eqb x space) (either (eqb
 
 -- only the kept characters stay
 unfoldable pub keptOnly : List ℕ → List ℕ
-keptOnly [] = []
-keptOnly (x ∷ s) = pick (kept x) (x ∷ keptOnly s) (keptOnly s)
+keptOnly s = only kept s
 
 -- spaces at the start go
 unfoldable pub trimmedStart : List ℕ → List ℕ

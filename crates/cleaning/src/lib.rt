@@ -12,7 +12,7 @@ fn kept(x: u8) -> bool
     if lent::between(b'A', b'Z', x) {
         return true;
     }
-    if lent::between(b'0', b'9', x) {
+    if lent::is_digit(x) {
         return true;
     }
     if x == b' ' {

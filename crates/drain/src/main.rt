@@ -49,7 +49,7 @@ fn mixed(checksum: u64, key: u64) -> u64 {
     ((checksum << 1) ^ (checksum >> 63)) ^ key
 }
 
-// The number of a call counted one on, as far as it can be counted.
+// A count, one more.
 fn one_more(n: u64) -> u64 {
     std::num::wrapping_add_u64(n, 1)
 }
@@ -102,7 +102,7 @@ fn drained(derivation: &[u8], loaded: Terminal) {
         checksum: 0,
     };
     let mut calls: u64 = 0;
-    while calls < 1048577 {
+    while calls < 1048576 {
         calls += 1;
         let mut buffer = [0u8; 8];
         let given = terminal::next_key(t, &mut buffer);

@@ -1,26 +1,29 @@
 -- What other crates cite: the serial number with its counter replaced, the host's keys for it, and when they are refused.
 pub use Rattle.host.proofs.Accepted.{Fit, fit}
 use borrow.Author.Tests.{eqb-true, eq-eqb}
-use mathlib.Core.Path.{_≡_, refl, sym, ap, ap₂, _∙_}
+use mathlib.Core.Path.{_≡_, refl, sym, ap, _∙_}
 use mathlib.Core.List.{List}
 use mathlib.Core.Logic.{_↔_, if-pos, by-cases}
-use mathlib.Core.Bool.{true, false}
-use Prim.Native.Nat.{ℕ, zero, suc, _+_, _*_, _/_, _%_, _^_, _≤_, _<_}
+use mathlib.Core.Bool.{true, false, not}
+use Prim.Native.Nat.{ℕ, _+_, _*_, _/_, _%_, _^_, _<_}
 use native.Mathlib.Omega.{arith}
 use native.Mathlib.Decide.{decLt}
-use lib.Dec.{lit<, lit≤}
-use lib.ListN.{length, getD, take, drop, length-take, length-drop, List·getD-eq-default}
+use lib.Dec.{lit<}
+use lib.ListN.{length, getD, take, drop, length-take, length-drop, take-append-drop, List·getD-eq-default}
 use lib.Seq.{getD-take, getD-drop}
-use Rattle.lent.proofs.Bases.{Digits, to-from}
-use Rattle.lent.specs.Result.{done}
+use Rattle.lent.specs.Numbers.{size, equalHalves, badCounter}
+use Rattle.lent.specs.Result.{Result, done}
 use Rattle.lent.specs.Words.{word, wordBytes, fromBase}
-use Rattle.cipher.specs.Triple.{tripleEncrypted}
-use Rattle.cipher.proofs.Laws.{triple-encrypted-lt}
+use Rattle.lent.proofs.Bases.{Digits, to-from}
+use Rattle.lent.proofs.Parts.{from-front}
+use Rattle.lent.proofs.Results.{Numbered, done-numbered, require-numbered}
+use Rattle.keyed.specs.Keyed.{enciphered}
+use Rattle.keyed.proofs.Laws.{enciphered-lt}
 use Rattle.registers.specs.Counters.{Permitted, permitted?}
 use Rattle.registers.specs.RegisterKey.{registerKey}
 use Rattle.host.specs.SerialNumber.{counterOf, withCounter, clearedTail}
 use Rattle.host.specs.Derivation.{oneWay, initialKeyOf, givenOut, hostKeyOf}
-use Rattle.host.specs.Entries.{sameHalves, initialKey, hostKey}
+use Rattle.host.specs.Entries.{sized, sameHalves, accepted, countable, initialKey, hostKey}
 use Rattle.host.proofs.Accepted.{passed}
 
 -- the bits of the counter are clear in the last eight bytes without it
@@ -57,9 +60,9 @@ module _ (serial : List ℕ) (c : ℕ) where
   unfolding withCounter fromBase
   first-with = omega arith
 
-  pub initial-with : (derivation : List ℕ) → initialKeyOf derivation (withCounter serial c) ≡ initialKeyOf derivation serial
+  initial-with : (derivation : List ℕ) → initialKeyOf derivation (withCounter serial c) ≡ initialKeyOf derivation serial
   unfolding initialKeyOf
-  initial-with derivation = ap (λ (x : ℕ). tripleEncrypted (word derivation) (word (drop 8 derivation)) x) first-with
+  initial-with derivation = ap (enciphered derivation) first-with
 
   module _ (derivation : List ℕ) (ok : Permitted c) where
     -- the host's key for it
@@ -78,7 +81,7 @@ module _ (serial : List ℕ) (c : ℕ) where
 -- it is a word
 pub initial-lt : (derivation serial : List ℕ) → initialKeyOf derivation serial < 2 ^ 64
 unfolding initialKeyOf
-initial-lt derivation serial = triple-encrypted-lt _ _ _
+initial-lt derivation serial = enciphered-lt derivation _
 
 pub initial-done : (derivation serial : List ℕ) → Fit derivation serial → initialKey derivation serial ≡ done (wordBytes (initialKeyOf derivation serial))
 unfolding initialKey
@@ -86,14 +89,8 @@ initial-done derivation serial f = passed derivation serial _ f
 
 -- ---- the halves of a derivation key
 
--- the first n digits of a list are those of its start
-start-from : (n k : ℕ) (s : List ℕ) → n ≤ k → fromBase 256 n (take k s) ≡ fromBase 256 n s
-unfolding fromBase
-start-from zero k s h = refl
-start-from (suc n) k s h = ap₂ (λ (x y : ℕ). x * 256 + y) (start-from n k s (omega arith)) (getD-take k s n 0 h)
-
 -- they have the same word exactly if they are the same eight bytes
-module _ (derivation : List ℕ) (size : length derivation ≡ 16) (bytes : Digits 256 derivation) where
+module _ (derivation : List ℕ) (sixteen : length derivation ≡ 16) (bytes : Digits 256 derivation) where
   left-bytes : Digits 256 (take 8 derivation)
   left-bytes k =
       by-cases (decLt k 8) (λ h. rw (getD-take 8 derivation k 0 h) (bytes k))
@@ -102,13 +99,33 @@ module _ (derivation : List ℕ) (size : length derivation ≡ 16) (bytes : Digi
   right-bytes : Digits 256 (drop 8 derivation)
   right-bytes k = rw (getD-drop 8 derivation k 0) (bytes (8 + k))
 
+  left-word : word (take 8 derivation) ≡ word derivation
+  left-word =
+      sym (from-front 256 8 (take 8 derivation) (drop 8 derivation) (simp length-take (omega arith))) ∙ ap word (take-append-drop 8 derivation)
+
   pub halves-same : (sameHalves derivation ≡ true) ↔ (take 8 derivation ≡ drop 8 derivation)
   halves-same = (
     λ e.
         let left = take 8 derivation in
         let right = drop 8 derivation in
         sym (to-from 256 8 left left-bytes (simp length-take (omega arith)))
-        ∙ ap wordBytes (start-from 8 8 derivation (lit≤ tt) ∙ eqb-true _ _ e)
+        ∙ ap wordBytes (left-word ∙ eqb-true _ _ e)
         ∙ to-from 256 8 right right-bytes (simp length-drop (omega arith)),
-    λ e. eq-eqb _ _ (sym (start-from 8 8 derivation (lit≤ tt)) ∙ ap word e),
+    λ e. eq-eqb _ _ (sym left-word ∙ ap word e),
   )
+
+-- ---- no refusal has the number 0
+
+accepted-numbered : (derivation serial : List ℕ) (r : Result (List ℕ)) → Numbered r → Numbered (accepted derivation serial r)
+unfolding accepted
+accepted-numbered derivation serial r h =
+    require-numbered (sized derivation serial) size (lit< tt) (require-numbered (not (sameHalves derivation)) equalHalves (lit< tt) h)
+
+pub initial-key-numbered : (derivation serial : List ℕ) → Numbered (initialKey derivation serial)
+unfolding initialKey
+initial-key-numbered derivation serial = accepted-numbered derivation serial _ (done-numbered _)
+
+pub host-key-numbered : (derivation serial : List ℕ) → Numbered (hostKey derivation serial)
+unfolding hostKey
+host-key-numbered derivation serial =
+    accepted-numbered derivation serial _ (require-numbered (countable (counterOf serial)) badCounter (lit< tt) (done-numbered _))

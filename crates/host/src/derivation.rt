@@ -1,8 +1,8 @@
 // How a terminal's keys are derived from the initial key.
 ghost use mathlib.Core.Path.{_≡_};
-ghost use mathlib.Core.Bool.{cond};
 ghost use Prim.Native.Nat.{_+_, _*_, _/_, _^_, _≤_, _<_};
 ghost use lib.Dec.{eqb};
+ghost use Rattle.lent.specs.Choice.{pick};
 ghost use Rattle.registers.specs.Counters.{bit};
 ghost use Rattle.registers.specs.RegisterKey.{registerKey};
 ghost use Rattle.host.specs.Derivation.{oneWay, givenOut};
@@ -33,7 +33,7 @@ fn past_place(key: u64, serial: u64, counter: u32, b: u32) -> u64
     requires { ⌜ b < 21 ⌝ }
     requires { ⌜ counter < 2 ^ 21 ⌝ }
     requires { ⌜ serial + 2 ^ 21 ≤ 2 ^ 64 ⌝ }
-    ensures { λ r. ⌜ r ≡ cond (eqb (bit counter b) 1) (oneWay key (serial + counter / 2 ^ b * 2 ^ b)) key ⌝ }
+    ensures { λ r. ⌜ r ≡ pick (eqb (bit counter b) 1) (oneWay key (serial + counter / 2 ^ b * 2 ^ b)) key ⌝ }
 {
     let bits = counter >> b;
     if bits % 2 == 1 {

@@ -4,19 +4,9 @@ use crate::derivation::register_key;
 use crate::serial_number::cleared_tail;
 use crate::serial_number::counter_of;
 ghost use mathlib.Core.Path.{_≡_};
-ghost use lib.ListN.{length, drop};
 ghost use Rattle.lent.specs.Result.{Answered, number};
-ghost use Rattle.lent.specs.Words.{word};
 ghost use Rattle.host.specs.Derivation.{initialKeyOf};
 ghost use Rattle.host.specs.Entries.{initialKey, hostKey};
-
-// The right half of a derivation key.
-fn right_half(derivation: &[u8]) -> u64
-    requires { ⌜ length (now derivation) ≡ 16 ⌝ }
-    ensures { λ r. ⌜ r ≡ word (drop 8 (now (derivation .entry))) ⌝ }
-{
-    lent::word_of(&derivation[8..])
-}
 
 // The number with which a derivation key and a serial number are refused; 0 if they are not.
 fn refusal(derivation: &[u8], serial: &[u8]) -> u8
@@ -28,7 +18,7 @@ fn refusal(derivation: &[u8], serial: &[u8]) -> u8
     if serial.len() != 10 {
         return lent::SIZE;
     }
-    if lent::word_of(derivation) == right_half(derivation) {
+    if lent::word_of(derivation) == lent::right_half(derivation) {
         return lent::EQUAL_HALVES;
     }
     lent::DONE
@@ -36,15 +26,10 @@ fn refusal(derivation: &[u8], serial: &[u8]) -> u8
 
 // The initial key's word.
 fn initial_word(derivation: &[u8], serial: &[u8]) -> u64
-    requires { ⌜ length (now derivation) ≡ 16 ⌝ }
     ensures { λ r. ⌜ r ≡ initialKeyOf (now (derivation .entry)) (now (serial .entry)) ⌝ }
 {
     let x = lent::word_of(serial);
-    cipher::triple_encrypt(
-        lent::word_of(derivation),
-        right_half(derivation),
-        x - x % 32,
-    )
+    keyed::encipher_word(derivation, x - x % 32)
 }
 
 // The initial key of the terminal with that serial number: 6 where the derivation key has not 16 bytes or the serial number not 10, 9 where

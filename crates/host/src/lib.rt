@@ -1,4 +1,4 @@
-// The host's keys of a DUKPT terminal (01, Terminal keys; 002), and what the terminal derives its own by.
+// The host's keys of a DUKPT terminal (01, Terminal keys; 002), and the steps by which the terminal derives its own.
 mod derivation;
 mod entries;
 mod serial_number;

@@ -11,7 +11,7 @@ use Rattle.keyentry.specs.Hexadecimal.{valueOf}
 use Rattle.keyentry.specs.KeyEntry.{keyOf}
 
 -- the bytes from the i-th on: the i-th, then the rest
-pub key-next : (text : List ℕ) (i : ℕ) → 2 * i + 2 ≤ length text
+key-next : (text : List ℕ) (i : ℕ) → 2 * i + 2 ≤ length text
     → keyOf (drop (2 * i) text) ≡ (valueOf (getD text (2 * i) 0) * 16 + valueOf (getD text (2 * i + 1) 0)) ∷ keyOf (drop (2 * (i + 1)) text)
 unfolding keyOf
 key-next text i h =

@@ -3,19 +3,16 @@ use borrow.Author.Tests.{eqb-true}
 use mathlib.Core.Path.{_≡_}
 use mathlib.Core.Bool.{true, false}
 use mathlib.Core.List.{List}
-use Prim.Native.Nat.{ℕ, suc, _≤_}
+use Prim.Native.Nat.{ℕ, _≤_}
 use native.Mathlib.Omega.{arith}
 use lib.Dec.{eqb}
 use Rattle.lent.specs.Choice.{all}
 use Rattle.lent.specs.Numbers.{size, character}
 use Rattle.lent.specs.Result.{done, refused, number}
-use Rattle.lent.proofs.Laws.{cases}
+use Rattle.lent.proofs.Laws.{cases, never}
 use Rattle.keyentry.specs.Hexadecimal.{hexadecimal}
 use Rattle.keyentry.specs.KeyEntry.{keyOf, keySize, fullText, keyEntry}
 use Rattle.keyentry.specs.declared.units.Bytes.{Bytes}
-
-never : {n : ℕ} → 0 ≡ suc n → ⊥
-never e = omega arith
 
 -- a key has at most 16 bytes
 pub key-size-le : (wanted : Bytes) → keySize wanted ≡ true → wanted .0 ≤ 16
@@ -45,6 +42,6 @@ module _ (text : List ℕ) (wanted : Bytes) where
   passes e =
       cases (keySize wanted)
       (λ s. cases (fullText text wanted)
-      (λ f. cases (all hexadecimal text) (λ h. (s, f, h)) (λ h. absurd (never (rw (character-refused s f h) at e))))
-      (λ f. absurd (never (rw (text-refused s f) at e))))
-      (λ s. absurd (never (rw (size-refused s) at e)))
+      (λ f. cases (all hexadecimal text) (λ h. (s, f, h)) (λ h. never (cc (character-refused s f h))))
+      (λ f. never (cc (text-refused s f))))
+      (λ s. never (cc (size-refused s)))

@@ -14,18 +14,18 @@ use Rattle.lent.specs.Choice.{both, pick, all}
 use Rattle.lent.specs.Characters.{digit, small, capitalized}
 use Rattle.lent.specs.Words.{byte}
 use Rattle.lent.proofs.Laws.{cases, both-true, between-true, holdsFrom, holds-below}
-use Rattle.keyentry.specs.Hexadecimal.{hexadecimal, valueOf, digitOf, textOf}
+use Rattle.keyentry.specs.Hexadecimal.{hexadecimal, valueOf, hexadecimalDigit, textOf}
 use Rattle.keyentry.specs.KeyEntry.{keyOf}
 
 -- ---- one digit
 
 -- the digit of a value is hexadecimal and has that value
 made : ℕ → ℕ → Bool
-made letter n = both (hexadecimal (digitOf letter n)) (eqb (valueOf (digitOf letter n)) n)
+made letter n = both (hexadecimal (hexadecimalDigit letter n)) (eqb (valueOf (hexadecimalDigit letter n)) n)
 
 -- a hexadecimal digit is the digit of its value, its letter's case aside
 read : ℕ → Bool
-read x = pick (hexadecimal x) (both (eqb (digitOf 65 (valueOf x)) (capitalized x)) (ltb (valueOf x) 16)) true
+read x = pick (hexadecimal x) (both (eqb (hexadecimalDigit 65 (valueOf x)) (capitalized x)) (ltb (valueOf x) 16)) true
 
 hexadecimal-le : (x : ℕ) → hexadecimal x ≡ true → x ≤ 102
 unfolding hexadecimal capitalized
@@ -34,24 +34,24 @@ hexadecimal-le x e =
     (λ d. cases (small x) (λ s. omega (arith, between-true 65 70 (x - 32) (simp (d, s) at e)))
     (λ s. omega (arith, between-true 65 70 x (simp (d, s) at e))))
 
-digit-read : (x : ℕ) → hexadecimal x ≡ true → (digitOf 65 (valueOf x) ≡ capitalized x) × (valueOf x < 16)
-unfolding read holdsFrom hexadecimal valueOf digitOf capitalized
+digit-read : (x : ℕ) → hexadecimal x ≡ true → (hexadecimalDigit 65 (valueOf x) ≡ capitalized x) × (valueOf x < 16)
+unfolding read holdsFrom hexadecimal valueOf hexadecimalDigit capitalized
 digit-read x e =
     let test : read x ≡ true = holds-below read 103 refl x (omega (arith, hexadecimal-le x e)) in
-    let h = both-true (eqb (digitOf 65 (valueOf x)) (capitalized x)) (ltb (valueOf x) 16) (simp e at test) in
+    let h = both-true (eqb (hexadecimalDigit 65 (valueOf x)) (capitalized x)) (ltb (valueOf x) 16) (simp e at test) in
     (eqb-true _ _ (h .0), ltb-true _ _ (h .1))
 
 -- capitals and small letters
 made-all : (letter : ℕ) → (letter ≡ 65) ⊎ (letter ≡ 97) → holdsFrom (made letter) 0 16 ≡ true
-unfolding made holdsFrom hexadecimal valueOf digitOf capitalized
+unfolding made holdsFrom hexadecimal valueOf hexadecimalDigit capitalized
 made-all letter (inl e) = rw e
 made-all letter (inr e) = rw e
 
 digit-made : (letter : ℕ) → (letter ≡ 65) ⊎ (letter ≡ 97) → (n : ℕ) → n < 16
-    → (hexadecimal (digitOf letter n) ≡ true) × (valueOf (digitOf letter n) ≡ n)
+    → (hexadecimal (hexadecimalDigit letter n) ≡ true) × (valueOf (hexadecimalDigit letter n) ≡ n)
 unfolding made
 digit-made letter case n h =
-    let d = digitOf letter n in
+    let d = hexadecimalDigit letter n in
     let t = both-true (hexadecimal d) (eqb (valueOf d) n) (holds-below (made letter) 16 (made-all letter case) n h) in
     (t .0, eqb-true _ _ (t .1))
 

@@ -4,7 +4,7 @@ use mathlib.Core.List.{List, [], _∷_}
 use Prim.Native.Nat.{ℕ, _+_, _-_, _/_, _%_}
 use lib.Dec.{ltb}
 use Rattle.lent.specs.Choice.{either, pick, between}
-use Rattle.lent.specs.Characters.{digit, capitalized}
+use Rattle.lent.specs.Characters.{digit, digitValue, digitOf, capitalized}
 
 -- 0 to 9, A to F, a to f
 unfoldable pub hexadecimal : ℕ → Bool
@@ -12,13 +12,13 @@ hexadecimal x = either (digit x) (between 65 70 (capitalized x))
 
 -- the value of a hexadecimal digit
 unfoldable pub valueOf : ℕ → ℕ
-valueOf x = pick (digit x) (x - 48) (capitalized x - 55)
+valueOf x = pick (digit x) (digitValue x) (capitalized x - 55)
 
 -- the digit of a value below 16, with the letters from `letter` on: 65 for capitals, 97 for small letters
-unfoldable pub digitOf : ℕ → ℕ → ℕ
-digitOf letter n = pick (ltb n 10) (48 + n) (letter + (n - 10))
+unfoldable pub hexadecimalDigit : ℕ → ℕ → ℕ
+hexadecimalDigit letter n = pick (ltb n 10) (digitOf n) (letter + (n - 10))
 
 -- the hexadecimal text of bytes: two digits for each
 unfoldable pub textOf : ℕ → List ℕ → List ℕ
 textOf letter [] = []
-textOf letter (b ∷ s) = digitOf letter (b / 16) ∷ digitOf letter (b % 16) ∷ textOf letter s
+textOf letter (b ∷ s) = hexadecimalDigit letter (b / 16) ∷ hexadecimalDigit letter (b % 16) ∷ textOf letter s

@@ -4,7 +4,8 @@ use mathlib.Core.List.{List, [], _∷_}
 use Prim.Native.Nat.{ℕ, _+_, _*_}
 use lib.Dec.{eqb}
 use lib.ListN.{length}
-use Rattle.lent.specs.Choice.{either, all}
+use Rattle.lent.specs.Choice.{all}
+use Rattle.lent.specs.Keys.{keySizes}
 use Rattle.lent.specs.Numbers.{size, character}
 use Rattle.lent.specs.Result.{Result, done, require}
 use Rattle.keyentry.specs.Hexadecimal.{hexadecimal, valueOf}
@@ -16,9 +17,9 @@ keyOf (high ∷ low ∷ s) = (valueOf high * 16 + valueOf low) ∷ keyOf s
 keyOf (high ∷ []) = []
 keyOf [] = []
 
--- a key has 8 or 16 bytes
+-- the wanted size is one of a key
 abbrev pub keySize : Bytes → Bool
-keySize wanted = either (eqb (wanted .0) 8) (eqb (wanted .0) 16)
+keySize wanted = keySizes (wanted .0)
 
 -- the text has two digits for each byte wanted
 abbrev pub fullText : List ℕ → Bytes → Bool

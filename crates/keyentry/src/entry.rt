@@ -64,7 +64,7 @@ fn byte_of(text: &[u8], place: Bytes) -> u8
     value_of(text[at]) * 16 + value_of(text[at + 1])
 }
 
-// The key that a text of hexadecimal digits stands for, with zeros after it.
+// The key that a text of hexadecimal digits stands for.
 fn key_of(text: &[u8], size: Bytes) -> [u8; 16]
     requires { ⌜ size .0 ≤ 16 ⌝ }
     requires { ⌜ length (now text) ≡ 2 * size .0 ⌝ }

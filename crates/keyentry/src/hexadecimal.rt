@@ -4,16 +4,16 @@ ghost use mathlib.Core.Bool.{true};
 ghost use mathlib.Core.List.{[], _∷_};
 ghost use Prim.Native.Nat.{_<_};
 ghost use Rattle.lent.specs.Choice.{all};
-ghost use Rattle.keyentry.specs.Hexadecimal.{hexadecimal, valueOf, digitOf, textOf};
+ghost use Rattle.keyentry.specs.Hexadecimal.{hexadecimal, valueOf, hexadecimalDigit, textOf};
 
 // Whether a character is a hexadecimal digit.
 fn is_hexadecimal(x: u8) -> bool
     ensures { λ r. ⌜ r ≡ hexadecimal x ⌝ }
 {
-    if lent::between(48, 57, x) {
+    if lent::is_digit(x) {
         return true;
     }
-    lent::between(65, 70, lent::capitalized(x))
+    lent::between(b'A', b'F', lent::capitalized(x))
 }
 
 // The value of a hexadecimal digit.
@@ -21,8 +21,8 @@ pub(crate) fn value_of(x: u8) -> u8
     requires { ⌜ hexadecimal x ≡ true ⌝ }
     ensures { λ r. ⌜ (r ≡ valueOf x) × (r < 16) ⌝ }
 {
-    if lent::between(48, 57, x) {
-        return x - 48;
+    if lent::is_digit(x) {
+        return x - b'0';
     }
     lent::capitalized(x) - 55
 }
@@ -44,12 +44,12 @@ pub(crate) fn all_hexadecimal(text: &[u8]) -> bool
 // The digit of a value below 16, in capitals.
 fn digit_of(n: u8) -> u8
     requires { ⌜ n < 16 ⌝ }
-    ensures { λ r. ⌜ r ≡ digitOf 65 n ⌝ }
+    ensures { λ r. ⌜ r ≡ hexadecimalDigit 65 n ⌝ }
 {
     if n < 10 {
-        return 48 + n;
+        return n + b'0';
     }
-    65 + (n - 10)
+    b'A' + (n - 10)
 }
 
 // The hexadecimal text of a byte, in capitals.

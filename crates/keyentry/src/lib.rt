@@ -7,4 +7,3 @@ pub use entry::Entered;
 pub use entry::key_entry;
 pub use hexadecimal::byte_text;
 pub use units::Bytes;
-pub use units::Digits;

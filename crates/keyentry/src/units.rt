@@ -3,13 +3,13 @@ ghost use mathlib.Core.Path.{_≡_};
 ghost use Rattle.keyentry.specs.Doubled.{doubled};
 
 // A number of hexadecimal digits, or a place among them.
-pub struct Digits(pub usize);
+pub(crate) struct Digits(pub(crate) usize);
 
 // A number of bytes, or a place among them.
 pub struct Bytes(pub usize);
 
 // The digits that a number of bytes takes, or that they are too many to count.
-pub enum Doubling {
+pub(crate) enum Doubling {
     Fits(Digits),
     TooLarge,
 }

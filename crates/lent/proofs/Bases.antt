@@ -38,7 +38,7 @@ module _ (b : ℕ) where
   from-lt (suc n) s d = rw (pow-suc b n) (digits-lt (from-lt n s d) (d n))
 
   -- a number without its last j digits
-  pub from-div : (m j : ℕ) (s : List ℕ) → Digits s → fromBase b (m + j) s / b ^ j ≡ fromBase b m s
+  from-div : (m j : ℕ) (s : List ℕ) → Digits s → fromBase b (m + j) s / b ^ j ≡ fromBase b m s
   unfolding fromBase
   from-div m zero s d = simp (add-zero, pow-zero, div-one)
   from-div m (suc j) s d =

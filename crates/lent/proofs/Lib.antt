@@ -3,3 +3,4 @@ pub mod Bases
 pub mod Lists
 pub mod Parts
 pub mod Results
+pub mod Appending

@@ -5,10 +5,13 @@ use mathlib.Core.Bool.{Bool, true, false}
 use mathlib.Core.List.{List}
 use Prim.Native.Nat.{ℕ, _<_, _≤_}
 use native.Mathlib.Omega.{arith}
+use lib.Dec.{leb, lit<}
 use lib.ListN.{length, take, drop, length-append}
 use lib.Seq.{take-append-seam}
-use Rattle.lent.proofs.Laws.{never}
+use Rattle.lent.proofs.Laws.{cases, never}
+use Rattle.lent.specs.Numbers.{size, character}
 use Rattle.lent.specs.Result.{Result, done, refused, number, require, andThen, bytes, answerOf, lend, over, Answered, Written}
+use Rattle.lent.specs.declared.answers.Length.{Length}
 
 module _ {A : Type 0} where
   -- an answer whose number is not 0 is that refusal
@@ -16,7 +19,7 @@ module _ {A : Type 0} where
   refused-as (done a) e h = absurd (h e)
   refused-as (refused k) e h = ap refused (sym e)
 
-  -- a value has one done answer
+  -- equal done answers have equal values
   pub same-done : {a b : A} → done a ≡ done b → a ≡ b
   same-done e = cc
 
@@ -24,11 +27,6 @@ module _ {A : Type 0} where
   pub require-done : (test : Bool) (n : ℕ) (r : Result A) (a : A) → require test n r ≡ done a → (test ≡ true) × (r ≡ done a)
   require-done true n r a e = (refl, e)
   require-done false n r a e = never (cc)
-
--- the number 0 under a test that refuses with another: the test held
-pub require-zero : {A : Type 0} (test : Bool) (n : ℕ) (r : Result A) → 0 < n → 0 ≡ number (require test n r) → (test ≡ true) × (0 ≡ number r)
-require-zero true n r p e = (refl, e)
-require-zero false n r p e = absurd (omega arith)
 
 -- a value that came of going on came from a value
 pub then-done : {A B : Type 0} (r : Result A) (f : A → Result B) (b : B) → andThen r f ≡ done b → (a : A) × (r ≡ done a) × (f a ≡ done b)
@@ -52,6 +50,13 @@ pub then-numbered : {A B : Type 0} (r : Result A) (f : A → Result B) → Numbe
 then-numbered (done a) f h k = k a
 then-numbered (refused n) f h k = λ e. let z : n ≡ 0 = cc in h (ap refused z)
 
+-- under a test whose refusal is 6, and one whose refusal is 7
+pub size-numbered : {A : Type 0} (test : Bool) {r : Result A} → Numbered r → Numbered (require test size r)
+size-numbered test h = require-numbered test size (lit< tt) h
+
+pub character-numbered : {A : Type 0} (test : Bool) {r : Result A} → Numbered r → Numbered (require test character r)
+character-numbered test h = require-numbered test character (lit< tt) h
+
 -- an answer by value says which result it is
 pub answer-of : (n : ℕ) (answer : Result (List ℕ)) {num : ℕ} {val : List ℕ} → Numbered answer → Answered n answer num val → answerOf num val ≡ answer
 unfolding answerOf
@@ -63,6 +68,29 @@ pub answered-done : (n : ℕ) (answer : Result (List ℕ)) {num : ℕ} {val : Li
 answered-done n (done b) h a z = ap done (sym (a .value))
 answered-done n (refused k) h a z = absurd (h (ap refused (sym (a .number) ∙ z)))
 
+-- ---- lengths
+
+-- a done value has at most m bytes
+abbrev pub AtMost : ℕ → Result (List ℕ) → Type 0
+AtMost m r = (v : List ℕ) → r ≡ done v → length v ≤ m
+
+pub done-most : (v : List ℕ) → AtMost (length v) (done v)
+done-most v w e = omega (arith, ap length (same-done e))
+
+pub require-most : (m : ℕ) (test : Bool) (n : ℕ) (r : Result (List ℕ)) → AtMost m r → AtMost m (require test n r)
+require-most m test n r h v e = h v (require-done test n r v e .1)
+
+pub then-most : {A : Type 0} (m : ℕ) (r : Result A) (f : A → Result (List ℕ)) → ((a : A) → AtMost m (f a)) → AtMost m (andThen r f)
+then-most m r f h v e = let k = then-done r f v e in h (k .0) v (k .2)
+
+lent-short : (room m : ℕ) (answer : Result (List ℕ)) → AtMost m answer → length (bytes (lend room answer)) ≤ m
+lent-short room m (done v) h = cases (leb (length v) room) (λ t. simp t (h v refl)) (λ f. simp f (omega arith))
+lent-short room m (refused n) h = omega arith
+
+-- what was written is no longer than the longest value
+pub written-short : (m : ℕ) {answer : Result (List ℕ)} {before after : List ℕ} {num len : ℕ} → AtMost m answer → Written answer before num len after → len ≤ m
+written-short m {answer} {before} h w = rw (w .value) (lent-short (length before) m answer h)
+
 -- ---- lent memory
 
 -- a refusal leaves no length, and lent memory as it was
@@ -71,6 +99,10 @@ pub refused-written : {answer : Result (List ℕ)} {before : List ℕ} {num len 
 refused-written {before = before} n e en el =
     rw (e, en, el) (record { number = refl; value = refl; memory = refl })
 
+pub refused-length : {answer : Result (List ℕ)} {before : List ℕ} (r : Length) {n : ℕ}
+    → r ≡ record { number = n; length = 0 } → answer ≡ refused n → Written answer before (r .number) (r .length) before
+refused-length r {n} h e = refused-written n e (ap (λ (l : Length). l .number) h) (ap (λ (l : Length). l .length) h)
+
 -- What a call wrote, where there was room enough for it: a number that is not 0 is the refusal, and with 0 the value stands at the start of the
 -- memory.
 module _ {answer : Result (List ℕ)} {before after : List ℕ} {num len : ℕ}
@@ -78,7 +110,7 @@ module _ {answer : Result (List ℕ)} {before after : List ℕ} {num len : ℕ}
   pub written-refused : (num ≡ 0 → ⊥) → answer ≡ refused num
   written-refused h = refused-as answer (w .number ∙ ap number room) h
 
-  pub written-value : (v : List ℕ) → answer ≡ done v → (take len after ≡ v) × (len ≤ length after)
+  written-value : (v : List ℕ) → answer ≡ done v → (take len after ≡ v) × (len ≤ length after)
   written-value v e =
       let b : bytes (lend (length before) answer) ≡ v = ap bytes (room ∙ e) in
       let el : len ≡ length v = w .value ∙ ap length b in

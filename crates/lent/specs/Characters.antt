@@ -1,6 +1,6 @@
 -- The characters of a text, as bytes of ASCII.
 use mathlib.Core.Bool.{Bool}
-use Prim.Native.Nat.{ℕ, _-_}
+use Prim.Native.Nat.{ℕ, _+_, _-_}
 use Rattle.lent.specs.Choice.{between, pick}
 
 -- 0 to 9
@@ -10,6 +10,10 @@ digit x = between 48 57 x
 -- the value of a digit
 abbrev pub digitValue : ℕ → ℕ
 digitValue x = x - 48
+
+-- the digit of a value below 10
+abbrev pub digitOf : ℕ → ℕ
+digitOf x = x + 48
 
 -- A to Z
 abbrev pub capital : ℕ → Bool

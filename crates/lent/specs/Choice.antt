@@ -27,3 +27,8 @@ between lo hi x = both (leb lo x) (leb x hi)
 abbrev pub all : (ℕ → Bool) → List ℕ → Bool
 all p [] = true
 all p (x ∷ s) = both (p x) (all p s)
+
+-- the elements that pass the test, and no others
+abbrev pub only : {A : Type 0} → (A → Bool) → List A → List A
+only p [] = []
+only p (x ∷ s) = pick (p x) (x ∷ only p s) (only p s)

@@ -18,10 +18,17 @@ pub fn between(lo: u8, hi: u8, x: u8) -> bool
 pub fn capitalized(x: u8) -> u8
     ensures { λ r. ⌜ r ≡ Characters.capitalized x ⌝ }
 {
-    if between(97, 122, x) {
+    if between(b'a', b'z', x) {
         return x - 32;
     }
     x
+}
+
+// Whether a character is a digit.
+pub fn is_digit(x: u8) -> bool
+    ensures { λ r. ⌜ r ≡ digit x ⌝ }
+{
+    between(b'0', b'9', x)
 }
 
 // Whether every character is a digit.
@@ -30,7 +37,7 @@ pub fn all_digits(s: &[u8]) -> bool
 {
     let mut i: usize = 0;
     while i < s.len() {
-        if !between(48, 57, s[i]) {
+        if !is_digit(s[i]) {
             return false;
         }
         i += 1;

@@ -7,6 +7,7 @@ use crate::words::bytes_of;
 ghost use mathlib.Core.Path.{_≡_};
 ghost use Prim.Native.Nat.{_≤_};
 ghost use lib.ListN.{length};
+ghost use Rattle.lent.specs.Appended.{Appended};
 ghost use Rattle.lent.specs.Result.{Written, done, over};
 ghost use Rattle.lent.specs.Words.{wordBytes};
 
@@ -42,4 +43,18 @@ pub fn lend_word(x: u64, out: &mut [u8]) -> Length
 {
     let bytes = bytes_of(x);
     lend(&bytes, out)
+}
+
+// Writes a value behind the first n bytes of lent memory and gives how many there are then: n where there is no room, and nothing is written.
+pub fn append(out: &mut [u8], n: usize, value: &[u8]) -> usize
+    ensures { λ r. ⌜ Appended (now (value .entry)) (now (out .entry)) (now (out .exit)) n r ⌝ }
+{
+    if out.len() < n {
+        return n;
+    }
+    if out.len() - n < value.len() {
+        return n;
+    }
+    copy(&mut out[n..], value);
+    n + value.len()
 }

@@ -2,7 +2,7 @@
 ghost use mathlib.Core.Path.{_≡_};
 ghost use Prim.Native.Nat.{_+_, _*_, _%_, _^_, _<_, _≤_};
 ghost use lib.ListN.{getD};
-ghost use Rattle.lent.specs.Words.{word, wordBytes};
+ghost use Rattle.lent.specs.Words.{word, right, wordBytes};
 
 // The byte at i; past the end, 0.
 pub fn byte_at(s: &[u8], i: usize) -> u8
@@ -33,6 +33,16 @@ pub fn word_of(s: &[u8]) -> u64
         i += 1;
     }
     x
+}
+
+// The right half of a key of sixteen bytes; past the end stand zeros.
+pub fn right_half(key: &[u8]) -> u64
+    ensures { λ r. ⌜ r ≡ right (now (key .entry)) ⌝ }
+{
+    if key.len() < 8 {
+        return 0;
+    }
+    word_of(&key[8..])
 }
 
 // The lowest byte of x.

@@ -6,11 +6,12 @@ use mathlib.Core.List.{List, [], _∷_}
 use mathlib.Core.Option.{Option, none, some}
 use Prim.Native.Nat.{ℕ, _+_, _<_, _≤_}
 use native.Mathlib.Omega.{arith}
+use lib.Arith.{lt-of-le-ne}
 use lib.Dec.{leb, eqb}
 use Rattle.lent.specs.Choice.{pick}
 use Rattle.lent.proofs.Laws.{cases, never}
 use Rattle.message.specs.Fields.{listed}
-use Rattle.message.specs.Records.{Field}
+use Rattle.message.specs.Records.{Field, highestField}
 use Rattle.message.specs.Text.{listedOnly, bodyIn, Agree}
 use Rattle.message.proofs.Rising.{Rising}
 
@@ -21,7 +22,7 @@ Sorted lowest (f ∷ fs) = (lowest ≤ f .number) × Sorted (f .number + 1) fs
 
 rising-sorted : (lowest highest : ℕ) (fs : List Field) → Rising lowest highest fs → Sorted lowest fs
 rising-sorted lowest highest [] r = tt
-rising-sorted lowest highest (f ∷ fs) r = (r .0, rising-sorted (f .number + 1) 192 fs (r .3))
+rising-sorted lowest highest (f ∷ fs) r = (r .0, rising-sorted (f .number + 1) highestField fs (r .3))
 
 weaker : (fs : List Field) (a b : ℕ) → a ≤ b → Sorted b fs → Sorted a fs
 weaker [] a b h r = tt
@@ -100,11 +101,8 @@ same (f ∷ fs) (g ∷ gs) a b r q e =
     (λ d.
     let differ : f .number ≡ g .number → ⊥ = eqb-false _ _ d in
     cases (leb (f .number) (g .number))
-    (λ l. let h : f .number ≤ g .number = leb-true _ _ l in absurd (lower f g fs gs (q .1) (less _ _ h differ) (e (f .number))))
+    (λ l. let h : f .number ≤ g .number = leb-true _ _ l in absurd (lower f g fs gs (q .1) (lt-of-le-ne h differ) (e (f .number))))
     (λ l. absurd (lower g f gs fs (r .1) (leb-false _ _ l) (sym (e (g .number))))))
-  where
-    less : (x y : ℕ) → x ≤ y → (x ≡ y → ⊥) → x < y
-    less x y h n = omega arith
 
 -- fields that rise and agree on the listed ones have the same listed fields
 pub listed-same : (fs gs : List Field) → Rising 0 0 fs → Rising 0 0 gs → Agree fs gs → listedOnly fs ≡ listedOnly gs

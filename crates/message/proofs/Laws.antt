@@ -19,12 +19,13 @@ use Rattle.message.specs.declared.fields.Kind.the-variants.{Digits}
 use Rattle.message.specs.declared.fields.Entry.the-variants.{Whole}
 use Rattle.message.specs.declared.fields.Rule.the-variants.{Listed}
 use Rattle.message.specs.Fields.{table, ruleIn, rule, permitted, permittedFrom, formed}
-use Rattle.message.specs.Records.{Field, bodySize, fieldNumber, bodyOf, fieldOf, knownType, judged, records, messageFields}
+use Rattle.message.specs.Records.{Field, bodySize, fieldNumber, bodyOf, fieldOf, knownType, judged, records, messageFields, highestField}
 use Rattle.message.specs.Text.{entered, shownField, listedOnly, joined, textOf, messageText, Agree}
-use Rattle.message.specs.Gathered.{spaced}
+use Rattle.message.specs.Gathered.{led, spaced}
 use Rattle.lent.proofs.Results.{then-done, same-done, Numbered, done-numbered, require-numbered, then-numbered}
 use Rattle.message.proofs.Room.{room, room-short, room-grows}
-use Rattle.message.proofs.Joining.{spaced-led, joined-short}
+use Rattle.message.proofs.Joining.{joined-short}
+use Rattle.message.proofs.Walking.{spaced-next}
 use Rattle.message.proofs.Rising.{Rising, fields-rising}
 use Rattle.message.proofs.Agreeing.{listed-same}
 
@@ -35,16 +36,16 @@ fields-of m t e =
     let k = then-done (messageFields m) _ t e in
     (k .0, k .1, same-done (k .2))
 
-spaced-short : (fs : List Field) (lowest highest : ℕ) → highest ≤ 192 → Rising lowest highest fs → room lowest + length (spaced fs) ≤ 167
-unfolding spaced
+spaced-short : (fs : List Field) (lowest highest : ℕ) → highest ≤ highestField → Rising lowest highest fs → room lowest + length (spaced fs) ≤ 167
+unfolding spaced led listedOnly
 spaced-short [] lowest highest h r = omega (arith, room-short lowest r)
 spaced-short (f ∷ fs) lowest highest h r =
-    rw length-append
-    (omega (arith, room-grows lowest (f .number) (f .body) (r .0) (r .2), spaced-short fs (f .number + 1) 192 (omega arith) (r .3)))
+    rw (spaced-next f fs, length-append)
+    (omega (arith, room-grows lowest (f .number) (f .body) (r .0) (r .2), spaced-short fs (f .number + 1) highestField (omega arith) (r .3)))
 
 -- a message's text has at most 166 characters
 pub at-most-166 : (m t : List ℕ) → messageText m ≡ done t → length t ≤ 166
-unfolding textOf
+unfolding textOf spaced
 at-most-166 m t e =
     let k = fields-of m t e in
     let ss = map shownField (listedOnly (k .0)) in
@@ -53,7 +54,6 @@ at-most-166 m t e =
       ap length (k .2),
       cleaned-short (joined ss),
       joined-short ss,
-      ap length (spaced-led (k .0)),
       spaced-short (k .0) 0 0 (omega arith) (fields-rising m (k .0) (k .1) .0),
     )
 
@@ -72,7 +72,7 @@ text-fits m = fits (messageText m) refl
     fits (done t) e = simp (le-leb (length t) 166 (at-most-166 m t e))
     fits (refused n) e = refl
 
--- a text of four digits or more is not empty when it is cleaned, whatever is joined to it
+-- a text of digits that is not empty is not empty when it is cleaned, whatever is joined to it
 digits-some : (s : List ℕ) (ss : List (List ℕ)) → permittedFrom Digits 0 s ≡ true → 0 < length s → 0 < length (cleaned (joined (s ∷ ss)))
 unfolding joined permittedFrom permitted
 digits-some [] ss d h = absurd (omega arith)
@@ -129,7 +129,9 @@ records-numbered (suc skip) lowest highest [] = done-numbered []
 records-numbered (suc skip) lowest highest (x ∷ s) = records-numbered skip lowest highest s
 records-numbered zero lowest highest (x ∷ s) =
     then-numbered (judged lowest highest (x ∷ s)) _ (judged-numbered lowest highest (x ∷ s))
-    (λ f. then-numbered (records (3 + bodySize (x ∷ s)) (f .number + 1) 192 s) _ (records-numbered (3 + bodySize (x ∷ s)) (f .number + 1) 192 s) (λ fs. done-numbered (f ∷ fs)))
+    (λ f.
+    let skipped = 3 + bodySize (x ∷ s) in
+    then-numbered (records skipped (f .number + 1) highestField s) _ (records-numbered skipped (f .number + 1) highestField s) (λ fs. done-numbered (f ∷ fs)))
 
 -- no refusal of a message has the number 0
 pub text-numbered : (m : List ℕ) → Numbered (messageText m)

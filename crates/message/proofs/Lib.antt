@@ -1,7 +1,6 @@
 mod Example
 mod Judging
 mod Walking
-mod Appending
 mod Room
 mod Joining
 mod Rising

@@ -9,7 +9,7 @@ use lib.Dec.{leb, ltb}
 use lib.ListN.{length}
 use Rattle.lent.specs.Result.{done, number, andThen}
 use Rattle.message.specs.Fields.{rule, formed}
-use Rattle.message.specs.Records.{Field, bodySize, fieldNumber, fieldOf, judged, records, messageFields}
+use Rattle.message.specs.Records.{Field, bodySize, fieldNumber, fieldOf, judged, records, messageFields, highestField}
 use Rattle.lent.proofs.Results.{require-done, then-done, same-done}
 use Rattle.message.proofs.Judging.{Accepted, accepted}
 
@@ -17,19 +17,19 @@ use Rattle.message.proofs.Judging.{Accepted, accepted}
 abbrev pub Rising : ℕ → ℕ → List Field → Type 0
 Rising lowest highest [] = lowest ≤ 193
 Rising lowest highest (f ∷ fs) =
-    (lowest ≤ f .number) × (f .number ≤ highest) × (formed (rule (f .number)) (f .body) ≡ true) × Rising (f .number + 1) 192 fs
+    (lowest ≤ f .number) × (f .number ≤ highest) × (formed (rule (f .number)) (f .body) ≡ true) × Rising (f .number + 1) highestField fs
 
 -- the first record of s is accepted, and the walk goes on behind it
 module _ (lowest highest : ℕ) (s t : List ℕ) (fs : List Field)
-    (e : andThen (judged lowest highest s) (λ f. andThen (records (3 + bodySize s) (f .number + 1) 192 t) (λ gs. done (f ∷ gs))) ≡ done fs) where
-  first : (gs : List Field) × Accepted lowest highest s × (records (3 + bodySize s) (fieldNumber s + 1) 192 t ≡ done gs) × (fieldOf s ∷ gs ≡ fs)
+    (e : andThen (judged lowest highest s) (λ f. andThen (records (3 + bodySize s) (f .number + 1) highestField t) (λ gs. done (f ∷ gs))) ≡ done fs) where
+  first : (gs : List Field) × Accepted lowest highest s × (records (3 + bodySize s) (fieldNumber s + 1) highestField t ≡ done gs) × (fieldOf s ∷ gs ≡ fs)
   first =
       let a = then-done (judged lowest highest s) _ fs e in
       let h = accepted lowest highest s (ap number (a .1)) in
-      let b = then-done (records (3 + bodySize s) (fieldNumber s + 1) 192 t) (λ gs. done (fieldOf s ∷ gs)) fs (rw (h .field) at e) in
+      let b = then-done (records (3 + bodySize s) (fieldNumber s + 1) highestField t) (λ gs. done (fieldOf s ∷ gs)) fs (rw (h .field) at e) in
       (b .0, h, b .1, same-done (b .2))
 
-records-rising : (s : List ℕ) (skip lowest highest : ℕ) → lowest ≤ 193 → highest ≤ 192 → (fs : List Field)
+records-rising : (s : List ℕ) (skip lowest highest : ℕ) → lowest ≤ 193 → highest ≤ highestField → (fs : List Field)
     → records skip lowest highest s ≡ done fs → Rising lowest highest fs
 unfolding records
 records-rising [] skip lowest highest l h fs e = let none : [] ≡ fs = cc in subst (Rising lowest highest) none l
@@ -37,7 +37,8 @@ records-rising (x ∷ s) zero lowest highest l h fs e =
     let k = first lowest highest (x ∷ s) s fs e in
     let a = k .1 in
     subst (Rising lowest highest) (k .3)
-    (a .low, a .high, a .form, records-rising s (3 + bodySize (x ∷ s)) (fieldNumber (x ∷ s) + 1) 192 (omega (arith, a .high)) (omega arith) (k .0) (k .2))
+    (let rest = records-rising s (3 + bodySize (x ∷ s)) (fieldNumber (x ∷ s) + 1) highestField (omega (arith, a .high)) (omega arith) (k .0) (k .2) in
+    (a .low, a .high, a .form, rest))
 records-rising (x ∷ s) (suc skip) lowest highest l h fs e = records-rising s skip lowest highest l h fs e
 
 records-some : (s : List ℕ) (lowest highest : ℕ) (fs : List Field) → 0 < length s → records 0 lowest highest s ≡ done fs → 0 < length fs

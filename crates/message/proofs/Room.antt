@@ -8,6 +8,7 @@ use native.Mathlib.Omega.{arith}
 use lib.Dec.{eqb, ltb}
 use lib.ListN.{length, length-take}
 use Rattle.lent.specs.Choice.{pick, between}
+use Rattle.lent.specs.Words.{toBase}
 use Rattle.lent.proofs.Laws.{cases, both-true, between-true}
 use Rattle.message.specs.declared.fields.Entry.{Entry}
 use Rattle.message.specs.declared.fields.Entry.the-variants.{Whole, Counted, First}
@@ -29,7 +30,7 @@ width (Listed kind least most entry) = 1 + entryWidth entry most
 width Unlisted = 0
 
 entered-short : (entry : Entry) (s : List ℕ) (most : ℕ) → length s ≤ most → length (entered entry s) ≤ entryWidth entry most
-unfolding entered entryWidth
+unfolding entered entryWidth toBase
 entered-short Whole s most h = h
 entered-short Counted s most h = omega arith
 entered-short (First n) s most h = rw length-take (omega arith)

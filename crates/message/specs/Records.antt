@@ -14,6 +14,10 @@ pub record Field : Type 0 where
   pub number : ℕ
   pub body : List ℕ
 
+-- the highest field number
+abbrev pub highestField : ℕ
+highestField = 192
+
 -- the number of two bytes at i, the low one first
 unfoldable pub littleEndian : List ℕ → ℕ → ℕ
 littleEndian s i = getD s i 0 + 256 * getD s (i + 1) 0
@@ -56,7 +60,7 @@ records skip lowest highest [] = done []
 records (suc skip) lowest highest (x ∷ s) = records skip lowest highest s
 records zero lowest highest (x ∷ s) =
     andThen (judged lowest highest (x ∷ s))
-    (λ f. andThen (records (3 + bodySize (x ∷ s)) (f .number + 1) 192 s) (λ fs. done (f ∷ fs)))
+    (λ f. andThen (records (3 + bodySize (x ∷ s)) (f .number + 1) highestField s) (λ fs. done (f ∷ fs)))
 
 -- the fields of a message of 1 to 4,096 bytes, whose first field is 0
 unfoldable pub messageFields : List ℕ → Result (List Field)

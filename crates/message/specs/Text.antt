@@ -3,11 +3,13 @@ use mathlib.Core.Path.{_≡_}
 use mathlib.Core.Bool.{true}
 use mathlib.Core.List.{List, [], _∷_, _++_, map}
 use mathlib.Core.Option.{Option, none, some}
-use Prim.Native.Nat.{ℕ, _+_, _/_, _%_}
+use Prim.Native.Nat.{ℕ}
 use lib.Dec.{eqb}
 use lib.ListN.{length, take}
-use Rattle.lent.specs.Choice.{pick}
+use Rattle.lent.specs.Choice.{pick, only}
+use Rattle.lent.specs.Characters.{digitOf}
 use Rattle.lent.specs.Result.{Result, done, andThen}
+use Rattle.lent.specs.Words.{toBase}
 use Rattle.cleaning.specs.Cleaning.{space, cleaned}
 use Rattle.message.specs.declared.fields.Entry.{Entry}
 use Rattle.message.specs.declared.fields.Entry.the-variants.{Whole, Counted, First}
@@ -18,7 +20,7 @@ use Rattle.message.specs.Records.{Field, messageFields}
 
 -- two decimal digits
 abbrev pub twoDigits : ℕ → List ℕ
-twoDigits n = (48 + n / 10 % 10) ∷ (48 + n % 10) ∷ []
+twoDigits n = map digitOf (toBase 10 2 n)
 
 -- a body as it enters the text
 unfoldable pub entered : Entry → List ℕ → List ℕ
@@ -37,8 +39,7 @@ shownField f = shown (rule (f .number)) (f .body)
 
 -- the listed fields alone
 unfoldable pub listedOnly : List Field → List Field
-listedOnly [] = []
-listedOnly (f ∷ fs) = pick (listed (f .number)) (f ∷ listedOnly fs) (listedOnly fs)
+listedOnly fs = only (λ f. listed (f .number)) fs
 
 -- one space between each and the next
 unfoldable pub joined : List (List ℕ) → List ℕ

@@ -64,7 +64,7 @@ fn letter_or_digit(x: u8) -> bool
     if lent::between(b'a', b'z', x) {
         return true;
     }
-    lent::between(b'0', b'9', x)
+    lent::is_digit(x)
 }
 
 // Whether a body of this kind may have a character at a place.
@@ -72,12 +72,12 @@ fn permitted(kind: Kind, place: usize, x: u8) -> bool
     ensures { λ r. ⌜ r ≡ Fields.permitted kind place x ⌝ }
 {
     match kind {
-        Kind::Digits => lent::between(b'0', b'9', x),
+        Kind::Digits => lent::is_digit(x),
         Kind::CreditOrDebit => {
             if place == 0 {
                 return lent::between(b'C', b'D', x);
             }
-            lent::between(b'0', b'9', x)
+            lent::is_digit(x)
         }
         Kind::LettersOrDigits => letter_or_digit(x),
         Kind::Printable => lent::between(b' ', b'~', x),

@@ -5,6 +5,9 @@ ghost use Prim.Native.Nat.{_<_, _≤_};
 ghost use Rattle.lent.specs.Result.{number};
 ghost use Rattle.message.specs.Records;
 
+// The highest field number.
+pub(crate) const HIGHEST_FIELD: usize = 192;
+
 // The number of two bytes at i, the low one first; past the end stand zeros.
 fn little_endian(s: &[u8], i: usize) -> usize
     requires { ⌜ i < 4 ⌝ }

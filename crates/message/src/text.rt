@@ -6,25 +6,17 @@ use crate::records;
 ghost use mathlib.Core.Path.{_≡_};
 ghost use Prim.Native.Nat.{_+_, _%_, _≤_};
 ghost use lib.ListN.{length, take};
+ghost use Rattle.lent.specs.Appended.{Appended};
+ghost use Rattle.lent.specs.Characters.{digitOf};
 ghost use Rattle.lent.specs.Result.{Written};
 ghost use Rattle.message.specs.Text;
 ghost use Rattle.message.specs.Gathered;
-ghost use Rattle.message.specs.Gathered.{Appended};
-
-// Writes `from` behind the first n bytes of `raw`, and gives how many there are then.
-fn append(raw: &mut [u8], n: usize, from: &[u8]) -> usize
-    requires { ⌜ n + length (now from) ≤ length (now raw) ⌝ }
-    ensures { λ r. ⌜ Appended (now (from .entry)) (now (raw .entry)) (now (raw .exit)) n r ⌝ }
-{
-    let written = lent::lend(from, &mut raw[n..]);
-    n + written.length
-}
 
 // The last decimal digit of a number, as a character.
 fn last_digit(n: usize) -> u8
-    ensures { λ r. ⌜ r ≡ 48 + n % 10 ⌝ }
+    ensures { λ r. ⌜ r ≡ digitOf (n % 10) ⌝ }
 {
-    b'0' + ((n % 10) as u8)
+    ((n % 10) as u8) + b'0'
 }
 
 // The last two decimal digits of a number.
@@ -50,13 +42,13 @@ fn append_entry(raw: &mut [u8], n: usize, entry: Entry, body: &[u8]) -> usize
     ensures { λ r. ⌜ Appended (Text.entered entry (now (body .entry))) (now (raw .entry)) (now (raw .exit)) n r ⌝ }
 {
     match entry {
-        Entry::Whole => append(raw, n, body),
+        Entry::Whole => lent::append(raw, n, body),
         Entry::Counted => {
             let digits = two_digits(body.len());
-            let k = append(raw, n, &digits);
-            append(raw, k, body)
+            let k = lent::append(raw, n, &digits);
+            lent::append(raw, k, body)
         }
-        Entry::First(count) => append(raw, n, first(count, body)),
+        Entry::First(count) => lent::append(raw, n, first(count, body)),
     }
 }
 
@@ -68,7 +60,7 @@ fn append_field(raw: &mut [u8], n: usize, rule: Rule, body: &[u8]) -> usize
     let Rule::Listed(_, _, _, entry) = rule else {
         return n;
     };
-    let k = append(raw, n, b" ");
+    let k = lent::append(raw, n, b" ");
     append_entry(raw, k, entry, body)
 }
 
@@ -98,7 +90,7 @@ fn gather(message: &[u8], raw: &mut [u8]) -> lent::Length
         n = append_field(raw, n, fields::rule_of(field), &rest[4..end]);
         at += end;
         lowest = field + 1;
-        highest = 192;
+        highest = records::HIGHEST_FIELD;
     }
     lent::Length {
         number: lent::DONE,

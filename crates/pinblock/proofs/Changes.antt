@@ -8,6 +8,7 @@ use Rattle.lent.proofs.Lists.{elements-below}
 use Rattle.lent.specs.Result.{Result, done, andThen}
 use Rattle.lent.specs.Words.{word, wordBytes}
 use Rattle.lent.proofs.Bases.{to-length, to-from, from-lt, to-bytes, word-back}
+use Rattle.lent.proofs.Results.{same-done}
 use Rattle.pinblock.specs.Pin.{permitted}
 use Rattle.pinblock.specs.ReadsBack.{Block, Makes, ReadsBack}
 
@@ -24,10 +25,6 @@ module _ {block : List ℕ} (b : Block block) where
   -- a block is the bytes of its word
   pub block-back : wordBytes (word block) ≡ block
   block-back = to-from 256 8 block (elements-below 256 block (lit< tt) (b .bytes)) (b .size)
-
--- a result has one value
-pub same-value : {result : Result (List ℕ)} {value value′ : List ℕ} → result ≡ done value → result ≡ done value′ → value ≡ value′
-same-value e e′ = cc
 
 -- ---- changes
 
@@ -61,14 +58,14 @@ module _ {forth back : ℕ → ℕ} (i : Inverse forth back) {make read make′ 
   read-made pin block′ m′ =
       let k = r .makes pin (m′ .permitted) in
       let block = k .0 in
-      let same : block′ ≡ wordBytes (forth (word block)) = same-value (m′ .made) (made pin block (k .2) .made) in
+      let same : block′ ≡ wordBytes (forth (word block)) = same-done (sym (m′ .made) ∙ made pin block (k .2) .made) in
       rw same (reader _ (word-block (forth (word block))) ∙ rw (block-undone i (k .1)) (r .back pin block (k .2)))
 
   pub reads-back : ReadsBack make′ read′
   reads-back =
       record {
         makes = λ pin h. let k = r .makes pin h in (wordBytes (forth (word (k .0))), word-block (forth (word (k .0))), made pin (k .0) (k .2));
-        one = λ pin pin′ block m m′. same-value (read-made pin block m) (read-made pin′ block m′);
+        one = λ pin pin′ block m m′. same-done (sym (read-made pin block m) ∙ read-made pin′ block m′);
         back = read-made;
         only = λ pin block b e. made-back pin block b (r .only pin _ (word-block (back (word block))) (sym (reader block b) ∙ e));
         other = λ block b none.

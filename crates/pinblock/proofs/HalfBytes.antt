@@ -11,13 +11,12 @@ use lib.Dec.{eqb, lit<}
 use lib.ListN.{length, getD, take, drop, set, replicate, length-drop, length-map, List·getD-map}
 use lib.Seq.{getD-drop, take-suc, take-suc-set, paste, paste-suc}
 use Rattle.lent.proofs.Lists.{elements-below, drop-replicate}
-use Rattle.lent.specs.Characters.{digitValue}
+use Rattle.lent.specs.Characters.{digitValue, digitOf}
 use Rattle.lent.specs.Choice.{all}
 use Rattle.lent.specs.Words.{toBase}
 use Rattle.lent.proofs.Laws.{holdsFrom, holds-below}
 use Rattle.lent.proofs.Bases.{Digits, to-at, to-length}
 use Rattle.pinblock.specs.Private.{halfByte}
-use Rattle.pinblock.specs.Reading.{digitOf}
 
 -- ---- the half-bytes of a word
 

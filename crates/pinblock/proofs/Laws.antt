@@ -1,30 +1,32 @@
--- What callers cite: a block is read exactly when some permitted PIN makes it, and gives that PIN; for every card number and key.
+-- What callers cite: a block is read exactly when some permitted PIN makes it, and gives that PIN; for every card number and key. A PIN that is
+-- read has at most 12 digits, and no refusal has the number 0.
 use borrow.Author.Tests.{eq-eqb}
 use mathlib.Core.Path.{_≡_, sym, ap, _∙_}
 use mathlib.Core.Bool.{true}
 use mathlib.Core.List.{List, [], _∷_, _++_}
 use Prim.Native.Nat.{ℕ, _^_, _<_, _≤_}
 use lib.Bits.{bitXor, xor-lt}
-use lib.Dec.{eqb}
 use lib.ListN.{length}
 use Rattle.lent.specs.CardNumbers.{cardSize}
 use Rattle.lent.specs.Choice.{all}
 use Rattle.lent.specs.Characters.{digit}
+use Rattle.lent.specs.Numbers.{size, character}
 use Rattle.lent.specs.Result.{Result, done, andThen}
-use Rattle.lent.specs.Words.{word, wordBytes, left, right}
-use Rattle.lent.proofs.Laws.{cases, both-true}
+use Rattle.lent.specs.Words.{word, wordBytes}
+use Rattle.lent.proofs.Laws.{both-true}
 use Rattle.lent.proofs.Bases.{to-length, word-back}
-use Rattle.cipher.proofs.Laws.{encrypted-lt, decrypted-lt, decrypt-encrypt, encrypt-decrypt, triple-encrypted-lt, triple-decrypted-lt, triple-decrypt-encrypt, triple-encrypt-decrypt}
+use Rattle.lent.proofs.Results.{same-done, Numbered, done-numbered, then-numbered, size-numbered, character-numbered, AtMost, require-most, then-most}
+use Rattle.keyed.specs.Keyed.{keySize, blockSize, enciphered, deciphered, decipherBlock}
+use Rattle.keyed.proofs.Laws.{enciphered-lt, deciphered-lt, decipher-encipher, encipher-decipher}
 use Rattle.cipher.proofs.Xor.{xor-cancel}
 use Rattle.pinblock.specs.CardNumber.{cardPart, pinBlockWithCard}
-use Rattle.pinblock.specs.Enciphering.{keySize, enciphered, deciphered}
-use Rattle.pinblock.specs.Entries.{make, makeWithCard, read, readWithCard, underKey, clearBlock, encipher, encipherWithCard, decipher, decipherWithCard}
+use Rattle.pinblock.specs.Entries.{make, makeWithCard, read, readWithCard, underKey, encipher, encipherWithCard, decipher, decipherWithCard}
 use Rattle.pinblock.specs.Pin.{pinSize, permitted, pinBlock}
 use Rattle.pinblock.specs.Reading.{pinOf}
 use Rattle.pinblock.specs.ReadsBack.{Block, Makes, ReadsBack}
 use Rattle.pinblock.proofs.CardNumbers.{card-part-lt, last-digit}
-use Rattle.pinblock.proofs.Changes.{word-block, word-lt, block-back, same-value, Inverse, reads-back}
-use Rattle.pinblock.proofs.Pins.{pin-block-lt}
+use Rattle.pinblock.proofs.Changes.{word-block, word-lt, block-back, Inverse, reads-back}
+use Rattle.pinblock.proofs.Pins.{pin-short, pin-block-lt}
 use Rattle.pinblock.proofs.Readings.{pin-read, pin-made, pin-refused}
 
 -- ---- clear blocks
@@ -47,7 +49,7 @@ read-word block e = simp (eq-eqb (length block) 8 e)
 read-made : (pin block : List ℕ) → Makes make pin block → read block ≡ done pin
 read-made pin block m =
     let x = pinBlock pin in
-    let same : block ≡ wordBytes x = same-value (m .made) (made pin (m .permitted)) in
+    let same : block ≡ wordBytes x = same-done (sym (m .made) ∙ made pin (m .permitted)) in
     rw (same, read-word (wordBytes x) (to-length 256 8 x), word-back x (pin-block-lt pin (m .permitted))) (pin-read pin (m .permitted))
 
 -- without a card number
@@ -55,7 +57,7 @@ pub read-back : ReadsBack make read
 read-back =
     record {
       makes = λ pin h. (wordBytes (pinBlock pin), word-block (pinBlock pin), record { permitted = h; made = made pin h });
-      one = λ pin pin′ block m m′. same-value (read-made pin block m) (read-made pin′ block m′);
+      one = λ pin pin′ block m m′. same-done (sym (read-made pin block m) ∙ read-made pin′ block m′);
       back = read-made;
       only = λ pin block b e. let h = pin-made pin (word block) (sym (read-word block (b .size)) ∙ e) in makes-block pin block b (h .0) (h .1);
       other = λ block b none. read-word block (b .size) ∙ pin-refused (word block) (λ pin h e. none pin (makes-block pin block b h e));
@@ -94,27 +96,19 @@ last-digit-free pin before x y h = ap (bitXor (pinBlock pin)) (last-digit before
 -- ---- enciphered blocks
 
 key-inverse : (key : List ℕ) → Inverse (enciphered key) (deciphered key)
-unfolding enciphered deciphered
 key-inverse key =
-    cases (eqb (length key) 8)
-    (λ e. record {
-      forth-lt = λ x k. simp e (encrypted-lt (left key) x);
-      back-lt = λ x k. simp e (decrypted-lt (left key) x);
-      back-forth = λ x k. simp e (decrypt-encrypt (left key) x k);
-      forth-back = λ x k. simp e (encrypt-decrypt (left key) x k);
-    })
-    (λ e. record {
-      forth-lt = λ x k. simp e (triple-encrypted-lt (left key) (right key) x);
-      back-lt = λ x k. simp e (triple-decrypted-lt (left key) (right key) x);
-      back-forth = λ x k. simp e (triple-decrypt-encrypt (left key) (right key) x k);
-      forth-back = λ x k. simp e (triple-encrypt-decrypt (left key) (right key) x k);
-    })
+    record {
+      forth-lt = λ x k. enciphered-lt key x;
+      back-lt = λ x k. deciphered-lt key x;
+      back-forth = decipher-encipher key;
+      forth-back = encipher-decipher key;
+    }
 
 module _ (key : List ℕ) (h : keySize key ≡ true) where
   -- for any maker and reader of clear blocks
   under-key : {make read : List ℕ → Result (List ℕ)} → ReadsBack make read
-      → ReadsBack (λ pin. underKey key (make pin)) (λ block. andThen (clearBlock block key) read)
-  unfolding underKey clearBlock
+      → ReadsBack (λ pin. underKey key (make pin)) (λ block. andThen (decipherBlock key block) read)
+  unfolding underKey decipherBlock
   under-key r = reads-back (key-inverse key) r (λ pin k. simp h) (λ block b. simp (eq-eqb (length block) 8 (b .size), h))
 
   -- without a card number
@@ -127,3 +121,52 @@ module _ (key : List ℕ) (h : keySize key ≡ true) where
       → ReadsBack (λ pin. encipherWithCard pin card key) (λ block. decipherWithCard block card key)
   unfolding encipherWithCard decipherWithCard
   decipher-back-with-card card k d = under-key (read-back-with-card card k d)
+
+-- ---- lengths
+
+-- a PIN that is read has at most 12 digits
+pin-of-most : (block : ℕ) → AtMost 12 (pinOf block)
+pin-of-most block pin e = pin-short pin (pin-made pin block e .0) .1
+
+pub read-most : (block : List ℕ) → AtMost 12 (read block)
+unfolding read
+read-most block = require-most 12 (blockSize block) size (pinOf (word block)) (pin-of-most (word block))
+
+pub read-with-card-most : (block card : List ℕ) → AtMost 12 (readWithCard block card)
+unfolding readWithCard
+read-with-card-most block card =
+    let x = bitXor (word block) (cardPart card) in
+    require-most 12 (blockSize block) size _
+    (require-most 12 (cardSize card) size _ (require-most 12 (all digit card) character (pinOf x) (pin-of-most x)))
+
+pub decipher-most : (block key : List ℕ) → AtMost 12 (decipher block key)
+unfolding decipher
+decipher-most block key = then-most 12 (decipherBlock key block) read read-most
+
+pub decipher-with-card-most : (block card key : List ℕ) → AtMost 12 (decipherWithCard block card key)
+unfolding decipherWithCard
+decipher-with-card-most block card key = then-most 12 (decipherBlock key block) _ (λ clear. read-with-card-most clear card)
+
+-- ---- no refusal has the number 0
+
+pub make-numbered : (pin : List ℕ) → Numbered (make pin)
+unfolding make
+make-numbered pin = size-numbered (pinSize pin) (character-numbered (all digit pin) (done-numbered _))
+
+pub make-with-card-numbered : (pin card : List ℕ) → Numbered (makeWithCard pin card)
+unfolding makeWithCard
+make-with-card-numbered pin card =
+    size-numbered (pinSize pin) (size-numbered (cardSize card)
+    (character-numbered (all digit pin) (character-numbered (all digit card) (done-numbered _))))
+
+under-key-numbered : (key : List ℕ) (made : Result (List ℕ)) → Numbered made → Numbered (underKey key made)
+unfolding underKey
+under-key-numbered key made h = size-numbered (keySize key) (then-numbered made _ h (λ b. done-numbered _))
+
+pub encipher-numbered : (pin key : List ℕ) → Numbered (encipher pin key)
+unfolding encipher
+encipher-numbered pin key = under-key-numbered key (make pin) (make-numbered pin)
+
+pub encipher-with-card-numbered : (pin card key : List ℕ) → Numbered (encipherWithCard pin card key)
+unfolding encipherWithCard
+encipher-with-card-numbered pin card key = under-key-numbered key (makeWithCard pin card) (make-with-card-numbered pin card)

@@ -1,6 +1,5 @@
--- Laws for the callers: Laws. The others are steps of the proofs, and the worked examples.
+-- Laws for the callers: Laws. The others are steps of the proofs, and the examples of source document 000.
 pub mod Laws
-mod Answers
 mod CardNumbers
 mod Changes
 mod Examples

@@ -9,13 +9,13 @@ use lib.ListN.{length, replicate, length-append, length-map, length-replicate}
 use lib.Seq.{take-at}
 use Rattle.lent.proofs.Lists.{all-map, all-append, all-replicate}
 use Rattle.lent.specs.Choice.{between, all}
-use Rattle.lent.specs.Characters.{digit, digitValue}
+use Rattle.lent.specs.Characters.{digit, digitValue, digitOf}
 use Rattle.lent.specs.Words.{toBase}
 use Rattle.lent.proofs.Laws.{both-true, between-true}
 use Rattle.lent.proofs.Bases.{to-from, from-lt}
 use Rattle.pinblock.specs.Pin.{permitted, pinHalfBytes, pinBlock}
 use Rattle.pinblock.specs.Private.{halfByte}
-use Rattle.pinblock.specs.Reading.{digitOf, candidate}
+use Rattle.pinblock.specs.Reading.{candidate}
 use Rattle.pinblock.proofs.HalfBytes.{half-bytes-below}
 
 -- ---- digits and their values

@@ -11,7 +11,7 @@ use lib.ListN.{length, getD, take, drop, replicate, length-append, length-map, l
 use lib.Seq.{length-take-le, take-at, drop-at, take-all}
 use Rattle.lent.proofs.Lists.{all-map, all-replicate}
 use Rattle.lent.specs.Choice.{both, between, all}
-use Rattle.lent.specs.Characters.{digit, digitValue}
+use Rattle.lent.specs.Characters.{digit, digitValue, digitOf}
 use Rattle.lent.specs.Numbers.{noSuchPin}
 use Rattle.lent.specs.Result.{done, refused}
 use Rattle.lent.specs.Words.{fromBase, toBase}
@@ -19,7 +19,7 @@ use Rattle.lent.proofs.Laws.{cases, both-true, between-true, within}
 use Rattle.lent.proofs.Bases.{to-length, from-to}
 use Rattle.pinblock.specs.Pin.{permitted, pinHalfBytes, pinBlock}
 use Rattle.pinblock.specs.Private.{wellFormed}
-use Rattle.pinblock.specs.Reading.{digitOf, candidate, accepted, pinOf}
+use Rattle.pinblock.specs.Reading.{candidate, accepted, pinOf}
 use Rattle.pinblock.proofs.Pins.{value-of-digit, pin-short, block-half-bytes, pin-candidate}
 
 -- ---- the PIN of a block

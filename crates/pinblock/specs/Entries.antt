@@ -1,25 +1,18 @@
 -- What each entry answers: its value, or the refusal that comes first (01, Numbers an operator sees; PIN blocks). 13, for a buffer
 -- shorter than the PIN, comes after these.
-use mathlib.Core.Bool.{Bool}
 use mathlib.Core.List.{List}
 use Prim.Native.Nat.{ℕ}
 use lib.Bits.{bitXor}
-use lib.Dec.{eqb}
-use lib.ListN.{length}
 use Rattle.lent.specs.CardNumbers.{cardSize}
 use Rattle.lent.specs.Choice.{all}
 use Rattle.lent.specs.Characters.{digit}
 use Rattle.lent.specs.Numbers.{size, character}
 use Rattle.lent.specs.Result.{Result, done, require, andThen}
 use Rattle.lent.specs.Words.{word, wordBytes}
+use Rattle.keyed.specs.Keyed.{keySize, blockSize, enciphered, decipherBlock}
 use Rattle.pinblock.specs.Pin.{pinSize, pinBlock}
 use Rattle.pinblock.specs.CardNumber.{cardPart, pinBlockWithCard}
 use Rattle.pinblock.specs.Reading.{pinOf}
-use Rattle.pinblock.specs.Enciphering.{keySize, enciphered, deciphered}
-
--- a block has 8 bytes
-abbrev pub blockSize : List ℕ → Bool
-blockSize block = eqb (length block) 8
 
 -- ---- clear blocks
 
@@ -56,13 +49,6 @@ underKey key made =
     require (keySize key) size
     (andThen made (λ block. done (wordBytes (enciphered key (word block)))))
 
--- a block, deciphered
-unfoldable pub clearBlock : List ℕ → List ℕ → Result (List ℕ)
-clearBlock block key =
-    require (blockSize block) size
-    (require (keySize key) size
-    (done (wordBytes (deciphered key (word block)))))
-
 -- the enciphered block of a PIN
 unfoldable pub encipher : List ℕ → List ℕ → Result (List ℕ)
 encipher pin key = underKey key (make pin)
@@ -73,8 +59,8 @@ encipherWithCard pin card key = underKey key (makeWithCard pin card)
 
 -- the PIN of an enciphered block, which is first deciphered and then read by the same rules
 unfoldable pub decipher : List ℕ → List ℕ → Result (List ℕ)
-decipher block key = andThen (clearBlock block key) read
+decipher block key = andThen (decipherBlock key block) read
 
 -- the same with a card number
 unfoldable pub decipherWithCard : List ℕ → List ℕ → List ℕ → Result (List ℕ)
-decipherWithCard block card key = andThen (clearBlock block key) (λ clear. readWithCard clear card)
+decipherWithCard block card key = andThen (decipherBlock key block) (λ clear. readWithCard clear card)

@@ -1,7 +1,6 @@
 pub mod Pin
 pub mod CardNumber
 pub mod Reading
-pub mod Enciphering
 pub mod Entries
 pub mod ReadsBack
 pub mod Private

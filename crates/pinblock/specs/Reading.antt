@@ -1,17 +1,14 @@
 -- Reading a block: the permitted PIN whose block it is, if there is one (01, PIN blocks).
 use mathlib.Core.List.{List, map}
-use Prim.Native.Nat.{ℕ, _+_}
+use Prim.Native.Nat.{ℕ}
 use lib.Dec.{eqb}
 use lib.ListN.{getD, take, drop}
+use Rattle.lent.specs.Characters.{digitOf}
 use Rattle.lent.specs.Choice.{both}
 use Rattle.lent.specs.Numbers.{noSuchPin}
 use Rattle.lent.specs.Result.{Result, done, require}
 use Rattle.lent.specs.Words.{toBase}
 use Rattle.pinblock.specs.Pin.{permitted, pinBlock}
-
--- the text's digit that has a value
-abbrev pub digitOf : ℕ → ℕ
-digitOf x = x + 48
 
 -- what stands after the length, as many half-bytes as it says
 unfoldable pub candidate : List ℕ → List ℕ

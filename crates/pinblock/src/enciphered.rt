@@ -3,73 +3,21 @@ use crate::making::make;
 use crate::making::make_with_card;
 use crate::reading::read;
 use crate::reading::read_with_card;
-ghost use mathlib.Core.Path.{_≡_};
-ghost use mathlib.Core.Bool.{true};
 ghost use Rattle.lent.specs.Result.{Answered, Written, answerOf};
-ghost use Rattle.pinblock.specs.Enciphering.{keySize, enciphered, deciphered};
 ghost use Rattle.pinblock.specs.Entries;
-
-// Whether a key has 8 or 16 bytes.
-fn key_sized(key: &[u8]) -> bool
-    ensures { λ r. ⌜ r ≡ keySize (now (key .entry)) ⌝ }
-{
-    if key.len() == 8 {
-        return true;
-    }
-    key.len() == 16
-}
-
-// A block enciphered under a key.
-fn encipher_word(key: &[u8], block: u64) -> u64
-    requires { ⌜ keySize (now key) ≡ true ⌝ }
-    ensures { λ r. ⌜ r ≡ enciphered (now (key .entry)) block ⌝ }
-{
-    let left = lent::word_of(key);
-    if key.len() == 8 {
-        return cipher::encrypt(left, block);
-    }
-    let right = lent::word_of(&key[8..]);
-    cipher::triple_encrypt(left, right, block)
-}
-
-// A block deciphered under a key.
-fn decipher_word(key: &[u8], block: u64) -> u64
-    requires { ⌜ keySize (now key) ≡ true ⌝ }
-    ensures { λ r. ⌜ r ≡ deciphered (now (key .entry)) block ⌝ }
-{
-    let left = lent::word_of(key);
-    if key.len() == 8 {
-        return cipher::decrypt(left, block);
-    }
-    let right = lent::word_of(&key[8..]);
-    cipher::triple_decrypt(left, right, block)
-}
 
 // A block that was made, enciphered under a key: 6 where the key has not 8 or 16 bytes; a refusal to make it stays.
 fn under_key(key: &[u8], made: lent::Block) -> lent::Block
     ensures { λ r. ⌜ Answered 8 (Entries.underKey (now (key .entry)) (answerOf (made .number) (made .value))) (r .number) (r .value) ⌝ }
 {
-    if !key_sized(key) {
+    if !keyed::key_sized(key) {
         return lent::refused_block(lent::SIZE);
     }
     if made.number != lent::DONE {
         return lent::refused_block(made.number);
     }
     let block = made.value;
-    lent::block_of(encipher_word(key, lent::word_of(&block)))
-}
-
-// The clear block of an enciphered one: 6 where the block has not 8 bytes or the key not 8 or 16.
-fn clear_block(block: &[u8], key: &[u8]) -> lent::Block
-    ensures { λ r. ⌜ Answered 8 (Entries.clearBlock (now (block .entry)) (now (key .entry))) (r .number) (r .value) ⌝ }
-{
-    if block.len() != 8 {
-        return lent::refused_block(lent::SIZE);
-    }
-    if !key_sized(key) {
-        return lent::refused_block(lent::SIZE);
-    }
-    lent::block_of(decipher_word(key, lent::word_of(block)))
+    lent::block_of(keyed::encipher_word(key, lent::word_of(&block)))
 }
 
 // The enciphered block of a PIN: 6 where the PIN has not 4 to 12 characters or the key not 8 or 16 bytes, 7 where a character is
@@ -93,7 +41,7 @@ pub fn encipher_with_card(pin: &[u8], card: &[u8], key: &[u8]) -> lent::Block
 pub fn decipher(block: &[u8], key: &[u8], out: &mut [u8]) -> lent::Length
     ensures { λ r. ⌜ Written (Entries.decipher (now (block .entry)) (now (key .entry))) (now (out .entry)) (r .number) (r .length) (now (out .exit)) ⌝ }
 {
-    let deciphered = clear_block(block, key);
+    let deciphered = keyed::decipher_block(key, block);
     if deciphered.number != lent::DONE {
         return lent::refused_length(deciphered.number);
     }
@@ -107,7 +55,7 @@ pub fn decipher(block: &[u8], key: &[u8], out: &mut [u8]) -> lent::Length
 pub fn decipher_with_card(block: &[u8], card: &[u8], key: &[u8], out: &mut [u8]) -> lent::Length
     ensures { λ r. ⌜ Written (Entries.decipherWithCard (now (block .entry)) (now (card .entry)) (now (key .entry))) (now (out .entry)) (r .number) (r .length) (now (out .exit)) ⌝ }
 {
-    let deciphered = clear_block(block, key);
+    let deciphered = keyed::decipher_block(key, block);
     if deciphered.number != lent::DONE {
         return lent::refused_length(deciphered.number);
     }

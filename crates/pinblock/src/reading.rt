@@ -7,11 +7,12 @@ ghost use mathlib.Core.Path.{_≡_};
 ghost use mathlib.Core.List.{map};
 ghost use Prim.Native.Nat.{_≤_};
 ghost use lib.ListN.{take, drop};
+ghost use Rattle.lent.specs.Characters.{digitOf};
 ghost use Rattle.lent.specs.Result.{Written};
 ghost use Rattle.lent.specs.Words.{toBase};
 ghost use Rattle.pinblock.specs.Entries;
 ghost use Rattle.pinblock.specs.Private.{wellFormed};
-ghost use Rattle.pinblock.specs.Reading.{digitOf, pinOf};
+ghost use Rattle.pinblock.specs.Reading.{pinOf};
 
 // Whether a block's half-bytes are a permitted PIN's: 0, a length from 4 to 12, as many digits, then F.
 fn well_formed(block: u64) -> bool
@@ -45,7 +46,7 @@ fn text_of(block: u64, count: usize) -> [u8; 12]
     text
 }
 
-// Reads a block without a card number: 8 where it comes from no permitted PIN, 13 where the memory is shorter than the PIN.
+// The PIN of a clear block's word: 8 where it comes from no permitted PIN, 13 where the memory is shorter than the PIN.
 fn read_block(block: u64, out: &mut [u8]) -> lent::Length
     ensures { λ r. ⌜ Written (pinOf block) (now (out .entry)) (r .number) (r .length) (now (out .exit)) ⌝ }
 {

@@ -2,21 +2,21 @@
 use mathlib.Core.Path.{_≡_, refl, sym, ap, _∙_}
 use mathlib.Core.Logic.{_⊎_, inl, inr, by-cases}
 use Prim.Native.Nat.{ℕ, zero, suc, _+_, _-_, _*_, _/_, _%_, _^_, _≤_, _<_}
-use native.Mathlib.Nat.{le-refl, not-suc-le-zero, zero-lt-suc, pow-suc, mod-lt, mul-assoc, mul-one, eq-zero-or-pos, add-zero, pow-succ', mul-le-mul-right, one-mul}
+use native.Mathlib.Nat.{le-refl, not-suc-le-zero, zero-lt-suc, pow-suc, mod-lt, mul-assoc, mul-one, add-mul, eq-zero-or-pos, add-zero, pow-succ', mul-le-mul-right, one-mul}
 use native.Mathlib.Decide.{decLt, ℕ-discrete}
 use native.Mathlib.Numerals.{one-add}
 use native.Mathlib.Omega.{arith}
 use lib.Dec.{lit<}
 use lib.Arith.{bin-ind}
-use lib.Pow.{pow-pos, pow-mono, shl-exact, shr-shr, high}
+use lib.Pow.{pow-pos, pow-mono, pow-add, shl-exact, shr-shr, high}
 use lib.Count.{ones, ones-step, ones-cat, trailingZeros, under}
 use lib.Bits.{block-half, block-odd}
-use Rattle.registers.specs.Counters.{bit, lowestPlace}
+use Rattle.registers.specs.Counters.{bit, Permitted, lowestPlace}
 
 -- ---- bits
 
 -- bit b + 1 is bit b of the half
-pub bit-suc : (x b : ℕ) → bit x (suc b) ≡ bit (x / 2) b
+bit-suc : (x b : ℕ) → bit x (suc b) ≡ bit (x / 2) b
 bit-suc x b = ap (λ (k : ℕ). x / 2 ^ k % 2) (sym (one-add b)) ∙ ap (λ (y : ℕ). y % 2) (sym (shr-shr x 1 b))
 
 -- a bit is 0 or 1
@@ -117,6 +117,22 @@ pub place-lt : (c : ℕ) → 1 ≤ c → c < 2 ^ 21 → lowestPlace c < 21
 place-lt c p h =
     by-cases (decLt (lowestPlace c) 21) (λ q. q)
     (λ q. absurd (omega (arith, lowest-le (lowest c p h), pow-mono {i = 21} {j = lowestPlace c} (omega arith))))
+
+-- a permitted counter and its lowest one bit add up to at most 2 ^ 21
+pub place-room : (c : ℕ) → Permitted c → c + 2 ^ lowestPlace c ≤ 2 ^ 21
+place-room c ok =
+    let low = lowest c (ok .from-one) (ok .fits) in
+    let l = lowestPlace c in
+    let odd = low .above * 2 + 1 in
+    let k = 20 - l in
+    let place = place-lt c (ok .from-one) (ok .fits) in
+    let places : 21 ≡ k + 1 + l = omega arith in
+    let whole : 2 ^ 21 ≡ 2 ^ k * 2 * 2 ^ l =
+    ap (λ (n : ℕ). 2 ^ n) places ∙ pow-add 2 (k + 1) l ∙ ap (λ (x : ℕ). x * 2 ^ l) (pow-add 2 k 1) in
+    let next : c + 2 ^ l ≡ (odd + 1) * 2 ^ l = omega (arith, low .shape, add-mul odd 1 (2 ^ l), one-mul (2 ^ l)) in
+    by-cases (decLt odd (2 ^ k * 2))
+    (λ h. omega (arith, mul-le-mul-right {m = odd + 1} {n = 2 ^ k * 2} (2 ^ l) (omega arith)))
+    (λ h. absurd (omega (arith, ok .fits, low .shape, mul-le-mul-right {m = 2 ^ k * 2} {n = odd} (2 ^ l) (omega arith))))
 
 -- ---- one bits
 

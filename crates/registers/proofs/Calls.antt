@@ -10,12 +10,14 @@ use lib.Dec.{lit<, lit≤}
 use lib.Pow.{pow-lt}
 use lib.ListN.{length, getD, replicate, length-replicate}
 use lib.Count.{ones}
-use Rattle.registers.specs.Counters.{bit, Permitted, permittedTo, SmallestAbove, lastCounter, counterTotal, lowestPlace, nextAfter}
-use Rattle.registers.specs.Machine.{Device, filledMask, stepped, readyKey, moved, State, Outcome, given, refused, fill, keyAt, loaded, renewed, spent, outcome, after}
+use Rattle.lent.specs.Numbers as numbers
+use Rattle.lent.specs.Result.{Result, done, refused}
+use Rattle.registers.specs.Counters.{bit, Permitted, permittedTo, lastCounter, counterTotal, lowestPlace, nextAfter}
+use Rattle.registers.specs.Machine.{Device, filledMask, stepped, readyKey, moved, State, fill, keyAt, loaded, renewed, spent, outcome, after}
 use Rattle.registers.specs.Rule.{Filled, label, Blank}
-use Rattle.registers.specs.Demand.{keyOf, Waits, Ready, Finished, Follows, GivenFor}
+use Rattle.registers.specs.Progress.{keyOf, Waits, Ready, Finished, Follows, GivenFor}
 use Rattle.registers.proofs.Bits.{place-lt}
-use Rattle.registers.proofs.Order.{count-hit, count-gap, count-mono, permitted-le, next-permitted}
+use Rattle.registers.proofs.Order.{SmallestAbove, count-hit, count-gap, count-mono, permitted-le, next-permitted}
 use Rattle.registers.proofs.Total.{total, count-most}
 use Rattle.registers.proofs.Keys.{key-step, key-zero}
 use Rattle.registers.proofs.Filling.{length-fill, fill-below}
@@ -125,7 +127,7 @@ module _ {K G : Type 0} (device : Device K G) (initial : K) (serial : ℕ) where
             ap (λ (x : ℕ). getD (renewed device (s .keys) x c) b (device .empty)) (ready .same) ∙ there ∙ ap key (sym t)
 
     -- after a done call the state follows the rule
-    pub spent-follows : At (suc n) (spent device s)
+    spent-follows : At (suc n) (spent device s)
     spent-follows =
         by-cases (decLt c lastCounter) (λ h. rw (spent-on device s ok h) (inl (moved-ready h)))
         (λ h.
@@ -134,22 +136,22 @@ module _ {K G : Type 0} (device : Device K G) (initial : K) (serial : ℕ) where
         rw (spent-over device s (omega arith)) (inr (record { stopped = ended-stopped device s; all = all })))
 
     -- and what it gives is the key of the counter next in order
-    pub gives : GivenFor device initial serial (suc n) (device .give (readyKey device s) c)
+    gives : GivenFor device initial serial (suc n) (device .give (readyKey device s) c)
     gives = record { counter = c; nth = ready .nth; equal = ap (λ (k : K). device .give k c) own-key }
 
   -- with n keys given and the state s, a call answers o and leaves t
-  pub data Step (n : ℕ) (s : State K) (room : ℕ) : Outcome G → State K → Type 0 where
-    past : Finished device initial serial n s → Step n s room (refused 12) s
-    short : Ready device initial serial n s → room < device .bytes → Step n s room (refused 13) s
+  pub data Step (n : ℕ) (s : State K) (room : ℕ) : Result G → State K → Type 0 where
+    past : Finished device initial serial n s → Step n s room (refused numbers.exhausted) s
+    short : Ready device initial serial n s → room < device .bytes → Step n s room (refused numbers.shortBuffer) s
     full : {g : G} {t : State K} → Ready device initial serial n s → device .bytes ≤ room
-        → GivenFor device initial serial (suc n) g → At (suc n) t → Step n s room (given g) t
+        → GivenFor device initial serial (suc n) g → At (suc n) t → Step n s room (done g) t
 
   pub step : (n : ℕ) (s : State K) (room : ℕ) → At n s → Step n s room (outcome device s room) (after device s room)
   step n s room follows = go follows (decLt room (device .bytes))
     where
-      now : {o : Outcome G} {t : State K} → (outcome device s room ≡ o) × (after device s room ≡ t) → Step n s room o t
+      now : {o : Result G} {t : State K} → (outcome device s room ≡ o) × (after device s room ≡ t) → Step n s room o t
           → Step n s room (outcome device s room) (after device s room)
-      now e done = subst₂ (λ (o : Outcome G) (t : State K). Step n s room o t) (sym (e .0)) (sym (e .1)) done
+      now e did = subst₂ (λ (o : Result G) (t : State K). Step n s room o t) (sym (e .0)) (sym (e .1)) did
 
       go : At n s → Dec (room < device .bytes) → Step n s room (outcome device s room) (after device s room)
       go (inr finished) d = now (call-over device s room (finished .stopped .stopped)) (past finished)

@@ -1,21 +1,21 @@
 -- The register key of a counter with one more bit, below all its others, is one step from the counter's.
 use mathlib.Core.Path.{_≡_, refl, sym, ap, _∙_, subst}
 use mathlib.Core.Logic.{_⊎_, inl, inr}
-use mathlib.Core.Bool.{cond}
 use Prim.Native.Nat.{ℕ, zero, suc, _+_, _-_, _*_, _/_, _%_, _^_, _<_}
 use native.Mathlib.Nat.{le-of-suc-le-suc, eq-or-lt-of-le, not-suc-le-zero, mul-div-cancel, add-zero, add-mul, one-mul, zero-mul}
 use native.Mathlib.Omega.{arith}
 use lib.Dec.{eqb, lit<}
 use lib.Pow.{pow-pos}
+use Rattle.lent.specs.Choice.{pick}
 use Rattle.registers.specs.RegisterKey.{derive, registerKey}
 use Rattle.registers.proofs.Bits.{above-place, twice}
 
 module _ {K : Type 0} (F : K → ℕ → K) (serial : ℕ) where
   -- a multiple of 2 ^ b: nothing is left to do below place b
   derive-at : (b z : ℕ) (k : K) → ((j : K) → derive F serial b j (z * 2 ^ b) ≡ j)
-      → derive F serial (suc b) k (z * 2 ^ b) ≡ cond (eqb (z % 2) 1) (F k (serial + z * 2 ^ b)) k
+      → derive F serial (suc b) k (z * 2 ^ b) ≡ pick (eqb (z % 2) 1) (F k (serial + z * 2 ^ b)) k
   unfolding derive
-  derive-at b z k rest = rest _ ∙ ap (λ (x : ℕ). cond (eqb (x % 2) 1) (F k (serial + x * 2 ^ b)) k) (mul-div-cancel z (pow-pos b))
+  derive-at b z k rest = rest _ ∙ ap (λ (x : ℕ). pick (eqb (x % 2) 1) (F k (serial + x * 2 ^ b)) k) (mul-div-cancel z (pow-pos b))
 
   derive-rest : (b y : ℕ) (k : K) → derive F serial b k (y * 2 ^ b) ≡ k
   unfolding derive
@@ -23,7 +23,7 @@ module _ {K : Type 0} (F : K → ℕ → K) (serial : ℕ) where
   derive-rest (suc b) y k =
       let even : y * 2 % 2 ≡ 0 = omega arith in
       ap (derive F serial (suc b) k) (twice y b) ∙ derive-at b (y * 2) k (λ j. derive-rest b (y * 2) j)
-      ∙ ap (λ (d : ℕ). cond (eqb d 1) (F k (serial + y * 2 * 2 ^ b)) k) even
+      ∙ ap (λ (d : ℕ). pick (eqb d 1) (F k (serial + y * 2 * 2 ^ b)) k) even
 
   derive-step : (w b y : ℕ) → b < w → (k : K)
       → derive F serial w k ((y * 2 + 1) * 2 ^ b) ≡ F (derive F serial w k (y * 2 * 2 ^ b)) (serial + (y * 2 + 1) * 2 ^ b)
@@ -39,7 +39,7 @@ module _ {K : Type 0} (F : K → ℕ → K) (serial : ℕ) where
           let odd : (y * 2 + 1) % 2 ≡ 1 = omega arith in
           let here : Goal (suc b) k =
           derive-at b (y * 2 + 1) k (λ j. derive-rest b (y * 2 + 1) j)
-          ∙ ap (λ (d : ℕ). cond (eqb d 1) (F k (serial + (y * 2 + 1) * 2 ^ b)) k) odd
+          ∙ ap (λ (d : ℕ). pick (eqb d 1) (F k (serial + (y * 2 + 1) * 2 ^ b)) k) odd
           ∙ ap (λ (j : K). F j (serial + (y * 2 + 1) * 2 ^ b)) (sym (ap (derive F serial (suc b) k) (sym (twice y b)) ∙ derive-rest (suc b) y k)) in
           subst (λ (v : ℕ). Goal (suc v) k) e here
       go (inr q) ih =

@@ -7,5 +7,5 @@ pub mod Places
 pub mod Validity
 pub mod Spent
 pub mod Calls
-pub mod Theorem
+pub mod Traces
 pub mod Laws

@@ -7,10 +7,9 @@ use native.Mathlib.Decide.{decLe, decLt, le-ind}
 use native.Mathlib.Numerals.{add-one}
 use native.Mathlib.Omega.{arith}
 use borrow.Author.Tests.{lt-ltb, le-ltb}
-use lib.Dec.{lit<}
 use lib.Pow.{pow-pos, pow-mono, shr-lt, shl-shr}
 use lib.Count.{ones, ones-cat, ones-ones, ones-le}
-use Rattle.registers.specs.Counters.{Permitted, permitted?, permittedTo, Nth, SmallestAbove, lastCounter, lowestPlace, nextAfter, nextCounter}
+use Rattle.registers.specs.Counters.{Permitted, permitted?, permittedTo, Nth, lastCounter, lowestPlace, nextAfter, nextCounter}
 use Rattle.registers.proofs.Bits.{Lowest, lowest, place-lt, ones-pos, ones-odd, ones-shl, ones-suc, twice}
 
 -- ---- the count
@@ -59,11 +58,7 @@ nth-below (suc x) n p q =
 
 -- ---- the last counter
 
--- it has the ten highest of the 21 bits
-pub last-permitted : Permitted lastCounter
-last-permitted = record { from-one = lit< tt; fits = lit< tt; few = omega (arith, ones-shl (2 ^ 10 - 1) 11, ones-ones 10) }
-
--- a larger number of 21 bits has all of these and one more
+-- it has the ten highest of the 21 bits; a larger number of 21 bits has all of these and one more
 pub permitted-le : (c : ℕ) → Permitted c → c ≤ lastCounter
 permitted-le c ok = by-cases (decLe c lastCounter) (λ h. h) (λ h. absurd (over (omega arith)))
   where
@@ -75,6 +70,12 @@ permitted-le c ok = by-cases (decLe c lastCounter) (λ h. h) (λ h. absurd (over
         omega (arith, ok .few, ap ones parts, ones-ones 10, ones-pos r (omega arith))
 
 -- ---- the next counter
+
+-- d is the smallest permitted counter above c
+pub record SmallestAbove (c d : ℕ) : Type 0 where
+  pub permitted : Permitted d
+  pub above : c < d
+  pub none-between : (x : ℕ) → c < x → x < d → ¬ Permitted x
 
 -- the rule's two cases
 pub next-few : (c : ℕ) → ones c < 10 → nextAfter c ≡ suc c

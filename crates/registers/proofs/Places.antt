@@ -19,12 +19,12 @@ use Rattle.registers.proofs.Bits.{bit-cases, turned, bit-ones, below-pl
 use Rattle.registers.proofs.Order.{next-few, next-full}
 
 -- how the place b lies to l
-pub data Place (b l : ℕ) : Type 0 where
+data Place (b l : ℕ) : Type 0 where
   is-below : b < l → Place b l
   is-at : b ≡ l → Place b l
   is-above : l < b → Place b l
 
-pub place : (b l : ℕ) → Place b l
+place : (b l : ℕ) → Place b l
 place b l = by-cases (decLt b l) (λ h. is-below h) (λ h. by-cases (ℕ-discrete b l) (λ e. is-at e) (λ e. is-above (omega arith)))
 
 -- a register is filled or not, as bit b of c - 1 says; if it is, that number gives its label too

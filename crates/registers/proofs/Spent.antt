@@ -1,6 +1,6 @@
 -- One key given out: what the registers hold afterwards.
 use mathlib.Core.Path.{_≡_, refl, sym, ap, _∙_}
-use mathlib.Core.Logic.{inl, inr, by-cases}
+use mathlib.Core.Logic.{by-cases}
 use mathlib.Core.Bool.{true, false}
 use mathlib.Core.List.{List}
 use Prim.Native.Nat.{ℕ, _-_, _≤_, _<_}
@@ -10,10 +10,12 @@ use borrow.Author.Tests.{lt-ltb, le-ltb, ne-eqb}
 use lib.ListN.{length, getD, length-set, length-replicate, getD-replicate}
 use lib.Seq.{getD-set-same, getD-set-other}
 use lib.Count.{ones}
+use Rattle.lent.specs.Numbers as numbers
+use Rattle.lent.specs.Result.{done, refused}
 use Rattle.registers.specs.Counters.{bit, Permitted, lastCounter, lowestPlace, nextAfter, nextCounter}
 use Rattle.registers.specs.RegisterKey.{registerKey}
-use Rattle.registers.specs.Machine.{Device, State, given, refused, keyAt, stepped, readyKey, emptied, fill, renewed, moved, ended, spent, outcome, after}
-use Rattle.registers.specs.Rule.{label, Running, Stopped, Valid}
+use Rattle.registers.specs.Machine.{Device, State, keyAt, stepped, readyKey, emptied, fill, renewed, moved, ended, spent, outcome, after}
+use Rattle.registers.specs.Rule.{label, Running, Stopped}
 use Rattle.registers.proofs.Bits.{place-lt}
 use Rattle.registers.proofs.Order.{next-permitted, next-on, next-none}
 use Rattle.registers.proofs.Keys.{key-step}
@@ -30,7 +32,7 @@ module _ {K G : Type 0} (device : Device K G) where
   none = device .empty
 
   -- the registers with those below that of the counter c filled from it
-  abbrev pub refilled-below : List K → ℕ → ℕ → List K
+  abbrev refilled-below : List K → ℕ → ℕ → List K
   refilled-below keys serial c = fill (lowestPlace c) (stepped device (getD keys (lowestPlace c) none) serial c) keys
 
   -- below ten one bits they are filled, at ten they stay; the counter's register is emptied
@@ -65,7 +67,7 @@ module _ {K G : Type 0} (device : Device K G) where
     full-at : ¬ (ones c < 10) → (b : ℕ) → new b ≡ getD (emptied device l keys) b none
     full-at h b = ap (λ (k : List K). getD k b none) (renewed-full keys serial c (omega arith))
 
-    pub length-renewed : length (renewed device keys serial c) ≡ 21
+    length-renewed : length (renewed device keys serial c) ≡ 21
     length-renewed =
         by-cases (decLt (ones c) 10) (λ h. ap length (renewed-few keys serial c h) ∙ length-set low l _ ∙ low-size)
         (λ h. ap length (renewed-full keys serial c (omega arith)) ∙ length-set keys l _ ∙ size)
@@ -94,7 +96,7 @@ module _ {K G : Type 0} (device : Device K G) where
         (λ h. full-at h b ∙ getD-set-other keys l b _ none (λ e. omega arith))
 
     -- a register that is empty afterwards is zero if those that were empty are
-    pub renewed-clear : ((b : ℕ) → b < 21 → bit (c - 1) b ≡ 1 → getD keys b none ≡ none)
+    renewed-clear : ((b : ℕ) → b < 21 → bit (c - 1) b ≡ 1 → getD keys b none ≡ none)
         → (b : ℕ) → b < 21 → bit (nextAfter c - 1) b ≡ 1 → new b ≡ none
     renewed-clear old b h e = go (change c (ok .from-one) (ok .fits) b)
       where
@@ -166,24 +168,18 @@ module _ {K G : Type 0} (device : Device K G) where
   pub spent-over : (s : State K) → lastCounter ≤ s .counter → spent device s ≡ ended device s
   spent-over s h = spent-none s (next-none (s .counter) h)
 
-  -- a done call leaves a state that hangs together
-  pub spent-valid : (s : State K) → Running device s → Valid device (spent device s)
-  spent-valid s run =
-      by-cases (decLt (s .counter) lastCounter) (λ h. rw (spent-on s (run .permitted) h) (inl (moved-running s run h)))
-      (λ h. rw (spent-over s (omega arith)) (inr (ended-stopped s)))
-
   -- ---- a call, by its three cases
 
   module _ (s : State K) (room : ℕ) where
-    pub call-over : s .exhausted ≡ true → (outcome device s room ≡ refused 12) × (after device s room ≡ s)
+    pub call-over : s .exhausted ≡ true → (outcome device s room ≡ refused numbers.exhausted) × (after device s room ≡ s)
     unfolding outcome after
     call-over e = (rw e refl, rw e refl)
 
-    pub call-short : s .exhausted ≡ false → room < device .bytes → (outcome device s room ≡ refused 13) × (after device s room ≡ s)
+    pub call-short : s .exhausted ≡ false → room < device .bytes → (outcome device s room ≡ refused numbers.shortBuffer) × (after device s room ≡ s)
     unfolding outcome after
     call-short e h = (rw (e, lt-ltb room (device .bytes) h) refl, rw (e, lt-ltb room (device .bytes) h) refl)
 
     pub call-full : s .exhausted ≡ false → device .bytes ≤ room
-        → (outcome device s room ≡ given (device .give (readyKey device s) (s .counter))) × (after device s room ≡ spent device s)
+        → (outcome device s room ≡ done (device .give (readyKey device s) (s .counter))) × (after device s room ≡ spent device s)
     unfolding outcome after
     call-full e h = (rw (e, le-ltb room (device .bytes) h) refl, rw (e, le-ltb room (device .bytes) h) refl)

@@ -1,7 +1,6 @@
 -- How many counters are permitted. The numbers below 2 ^ w with fewer than m one bits are counted by Pascal's rule on w.
 use mathlib.Core.Path.{_≡_, refl, sym, ap, ap₂, _∙_}
 use mathlib.Core.Logic.{by-cases}
-use mathlib.Core.Bool.{cond}
 use mathlib.Core.List.{List, [], _∷_}
 use Prim.Native.Nat.{ℕ, zero, suc, _+_, _-_, _*_, _^_, _≤_, _<_, zero-le}
 use native.Mathlib.Nat.{zero-lt-suc, pow-suc}
@@ -13,6 +12,7 @@ use lib.Dec.{ltb, leb·suc-suc, lit<, lit≤}
 use lib.Pow.{suc-ones}
 use lib.ListN.{replicate, getD}
 use lib.Count.{ones}
+use Rattle.lent.specs.Choice.{pick}
 use Rattle.registers.specs.Counters.{Permitted, permittedTo, lastCounter, counterTotal}
 use Rattle.registers.proofs.Bits.{ones-odd, ones-shl}
 use Rattle.registers.proofs.Order.{count-hit, count-miss, count-gap, count-mono, permitted-le}
@@ -20,7 +20,7 @@ use Rattle.registers.proofs.Order.{count-hit, count-miss, count-gap, co
 -- how many of 0, .., x - 1 have fewer than m one bits
 fewer : ℕ → ℕ → ℕ
 fewer m zero = 0
-fewer m (suc x) = fewer m x + cond (ltb (ones x) m) 1 0
+fewer m (suc x) = fewer m x + pick (ltb (ones x) m) 1 0
 
 fewer-zero : (x : ℕ) → fewer 0 x ≡ 0
 unfolding fewer

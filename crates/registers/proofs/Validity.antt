@@ -1,6 +1,6 @@
 -- A state hangs together exactly if the tests of a few numbers pass: the mask of the filled registers is the one of its counter.
 use mathlib.Core.Path.{_≡_, refl, sym, ap, _∙_}
-use mathlib.Core.Logic.{_⊎_, inl, inr}
+use mathlib.Core.Logic.{inl, inr}
 use mathlib.Core.Bool.{true, false}
 use Prim.Native.Nat.{ℕ, _-_, _%_, _^_, _<_}
 use native.Mathlib.Nat.{zero-div}
@@ -8,30 +8,27 @@ use native.Mathlib.Omega.{arith}
 use lib.ListN.{length}
 use Rattle.registers.specs.Counters.{bit, Permitted}
 use Rattle.registers.specs.Machine.{Device, State, keyAt, filledAt, filledMask}
+use Rattle.registers.specs.Private.{Empties, Counted}
 use Rattle.registers.specs.Rule.{Filled, Blank, Running, Stopped, Valid}
 use Rattle.registers.proofs.Bits.{same-bits}
 use Rattle.registers.proofs.Places.{Says, is-filled, is-bare, says, mask-is, mask-bit}
 
 -- with no next counter, no register is filled
-pub mask-zero : filledMask 0 ≡ 0
+mask-zero : filledMask 0 ≡ 0
 unfolding filledMask
 mask-zero = refl
 
 module _ {K G : Type 0} (device : Device K G) where
-  -- a register that is not filled is zero
-  abbrev pub Empties : State K → Type 0
-  Empties s = (b : ℕ) → b < 21 → filledAt s b ≡ 0 → keyAt device s b ≡ device .empty
-
   -- what is tested: the counter is permitted, or the state is exhausted and it is 0; the mask is the counter's; empty registers are zero
   pub record Checked (s : State K) : Type 0 where
     pub size : length (s .keys) ≡ 21
-    pub phase : ((s .exhausted ≡ false) × Permitted (s .counter)) ⊎ ((s .exhausted ≡ true) × (s .counter ≡ 0))
+    pub phase : Counted (s .counter) (s .exhausted)
     pub mask : s .filled ≡ filledMask (s .counter)
-    pub empties : Empties s
+    pub empties : Empties device s
 
   -- from the tests to the rule's words, and back
   pub running-made : (s : State K) → s .exhausted ≡ false → Permitted (s .counter)
-      → s .filled ≡ filledMask (s .counter) → Empties s → length (s .keys) ≡ 21 → Running device s
+      → s .filled ≡ filledMask (s .counter) → Empties device s → length (s .keys) ≡ 21 → Running device s
   running-made s runs ok mask empties size = record {
     runs = runs;
     permitted = ok;
@@ -53,7 +50,7 @@ module _ {K G : Type 0} (device : Device K G) where
       bare b h f (is-bare g e) = let z : filledAt s b ≡ 0 = omega (arith, at b h) in record { unfilled = z; zeros = empties b h z }
 
   pub stopped-made : (s : State K) → s .exhausted ≡ true → s .counter ≡ 0
-      → s .filled ≡ 0 → Empties s → length (s .keys) ≡ 21 → Stopped device s
+      → s .filled ≡ 0 → Empties device s → length (s .keys) ≡ 21 → Stopped device s
   stopped-made s stopped none unfilled empties size =
       record { stopped = stopped; none = none; size = size; unfilled = unfilled; bare = λ b h. bare b h }
     where
@@ -65,7 +62,7 @@ module _ {K G : Type 0} (device : Device K G) where
   pub checked-valid : (s : State K) → Checked s → Valid device s
   checked-valid s ok = go (ok .phase)
     where
-      go : ((s .exhausted ≡ false) × Permitted (s .counter)) ⊎ ((s .exhausted ≡ true) × (s .counter ≡ 0)) → Valid device s
+      go : Counted (s .counter) (s .exhausted) → Valid device s
       go (inl (e, p)) = inl (running-made s e p (ok .mask) (ok .empties) (ok .size))
       go (inr (e, z)) = inr (stopped-made s e z (ok .mask ∙ ap filledMask z ∙ mask-zero) (ok .empties) (ok .size))
 

@@ -1,11 +1,11 @@
 -- The counters that a terminal gives out, and their order (01, Terminal keys).
 use mathlib.Core.Path.{_≡_}
-use mathlib.Core.Bool.{cond}
 use mathlib.Core.Logic.{ite, Dec·and}
 use Prim.Native.Nat.{ℕ, zero, suc, _+_, _/_, _%_, _^_, _≤_, _<_}
 use native.Mathlib.Decide.{decLe, decLt, map-dec}
 use lib.Dec.{ltb}
 use lib.Count.{ones, trailingZeros}
+use Rattle.lent.specs.Choice.{pick}
 
 -- bit b of x, the lowest being bit 0
 abbrev pub bit : ℕ → ℕ → ℕ
@@ -33,12 +33,6 @@ pub record Nth (n c : ℕ) : Type 0 where
   pub permitted : Permitted c
   pub number : permittedTo c ≡ n
 
--- d is the smallest permitted counter above c
-pub record SmallestAbove (c d : ℕ) : Type 0 where
-  pub permitted : Permitted d
-  pub above : c < d
-  pub none-between : (x : ℕ) → c < x → x < d → ¬ Permitted x
-
 -- the last permitted counter
 abbrev pub lastCounter : ℕ
 lastCounter = 0x1FF800
@@ -53,8 +47,8 @@ lowestPlace c = trailingZeros 32 c
 
 -- the rule for the next counter: below ten one bits, add 1; at ten, add the lowest one bit
 unfoldable pub nextAfter : ℕ → ℕ
-nextAfter c = cond (ltb (ones c) 10) (c + 1) (c + 2 ^ lowestPlace c)
+nextAfter c = pick (ltb (ones c) 10) (c + 1) (c + 2 ^ lowestPlace c)
 
 -- the counter that is next once c was given out; from the last counter on there is none, which is written 0
 unfoldable pub nextCounter : ℕ → ℕ
-nextCounter c = cond (ltb c lastCounter) (nextAfter c) 0
+nextCounter c = pick (ltb c lastCounter) (nextAfter c) 0

@@ -2,4 +2,6 @@ pub mod Counters
 pub mod RegisterKey
 pub mod Machine
 pub mod Rule
-pub mod Demand
+pub mod Progress
+pub mod Trace
+pub mod Private

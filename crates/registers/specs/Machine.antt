@@ -1,10 +1,13 @@
 -- The terminal as a machine: its state, loading, and a call for the next key (01, Terminal keys), for any kind of key.
-use mathlib.Core.Bool.{Bool, true, false, cond}
+use mathlib.Core.Bool.{Bool, true, false}
 use mathlib.Core.List.{List, [], _∷_}
 use Prim.Native.Nat.{ℕ, zero, suc, _+_, _-_, _^_}
 use lib.Dec.{ltb, eqb}
 use lib.ListN.{getD, set, replicate}
 use lib.Count.{ones}
+use Rattle.lent.specs.Choice.{pick}
+use Rattle.lent.specs.Numbers as numbers
+use Rattle.lent.specs.Result.{Result, done, refused}
 use Rattle.registers.specs.Counters.{bit, lowestPlace, nextCounter}
 
 -- What a kind of terminal has of its own: K is the type of a key in a register, G of what a call gives out.
@@ -27,11 +30,6 @@ pub record State (K : Type 0) : Type 0 where
   pub counter : ℕ
   pub exhausted : Bool
 
--- what a call answers: what it gives out, or the number of its refusal
-pub data Outcome (G : Type 0) : Type 0 where
-  given : G → Outcome G
-  refused : ℕ → Outcome G
-
 -- the first n registers hold f 0, .., f (n - 1), the others what they held
 unfoldable pub fill : {K : Type 0} → ℕ → (ℕ → K) → List K → List K
 fill zero f keys = keys
@@ -41,7 +39,7 @@ fill (suc n) f (key ∷ keys) = f 0 ∷ fill n (λ b. f (suc b)) keys
 -- the filled registers as a mask, bit b for register b, when the counter c is next; 0 is no counter. Bit b is 1 exactly if register b is
 -- filled by the rule (Rule.antt)
 unfoldable pub filledMask : ℕ → ℕ
-filledMask c = cond (eqb c 0) 0 (2 ^ 21 - c)
+filledMask c = pick (eqb c 0) 0 (2 ^ 21 - c)
 
 -- 1 where register b is filled, else 0
 abbrev pub filledAt : {K : Type 0} → State K → ℕ → ℕ
@@ -78,7 +76,7 @@ module _ {K G : Type 0} (device : Device K G) where
   unfoldable pub renewed : List K → ℕ → ℕ → List K
   renewed keys serial c =
       let l = lowestPlace c in
-      emptied l (cond (ltb (ones c) 10) (fill l (stepped (getD keys l (device .empty)) serial c) keys) keys)
+      emptied l (pick (ltb (ones c) 10) (fill l (stepped (getD keys l (device .empty)) serial c) keys) keys)
 
   -- the state with the renewed registers, and the counter `next` to be given out
   abbrev pub moved : State K → ℕ → State K
@@ -96,30 +94,15 @@ module _ {K G : Type 0} (device : Device K G) where
 
   -- the state after the key of its counter was given out
   unfoldable pub spent : State K → State K
-  spent s = cond (eqb (nextCounter (s .counter)) 0) (ended s) (moved s (nextCounter (s .counter)))
+  spent s = pick (eqb (nextCounter (s .counter)) 0) (ended s) (moved s (nextCounter (s .counter)))
 
   -- what a call with a lent buffer of `room` bytes answers: 12 if exhausted, 13 if the buffer is too short, else the key of the next counter
-  unfoldable pub outcome : State K → ℕ → Outcome G
+  unfoldable pub outcome : State K → ℕ → Result G
   outcome s room =
-      cond (s .exhausted) (refused 12)
-      (cond (ltb room (device .bytes)) (refused 13) (given (device .give (readyKey s) (s .counter))))
+      pick (s .exhausted) (refused numbers.exhausted)
+      (pick (ltb room (device .bytes)) (refused numbers.shortBuffer)
+      (done (device .give (readyKey s) (s .counter))))
 
   -- the state that it leaves: a refused call changes nothing
   unfoldable pub after : State K → ℕ → State K
-  after s room = cond (s .exhausted) s (cond (ltb room (device .bytes)) s (spent s))
-
-  -- the answers of a list of calls, of which each gets the state that the last one left
-  unfoldable pub outcomes : State K → List ℕ → List (Outcome G)
-  outcomes s [] = []
-  outcomes s (room ∷ calls) = outcome s room ∷ outcomes (after s room) calls
-
-  -- the state after them
-  unfoldable pub end : State K → List ℕ → State K
-  end s [] = s
-  end s (room ∷ calls) = end (after s room) calls
-
--- what a list of answers gives out, in order
-unfoldable pub givenIn : {G : Type 0} → List (Outcome G) → List G
-givenIn [] = []
-givenIn (given g ∷ answers) = g ∷ givenIn answers
-givenIn (refused n ∷ answers) = givenIn answers
+  after s room = pick (s .exhausted) s (pick (ltb room (device .bytes)) s (spent s))

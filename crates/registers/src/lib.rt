@@ -1,5 +1,5 @@
 // The counters of a DUKPT terminal: which are permitted, which comes next, and which register each belongs to.
-// The register machine and what holds of it over every list of calls stand in specs/ and proofs/.
+// The register machine, a call of it and lists of calls stand in specs/ and proofs/.
 
 ghost use mathlib.Core.Path.{_≡_};
 ghost use mathlib.Core.Bool.{true};

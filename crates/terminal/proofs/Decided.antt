@@ -9,11 +9,11 @@ use native.Mathlib.Omega.{arith}
 use lib.ListN.{length, getD}
 use Rattle.registers.specs.Counters.{bit, permitted?}
 use Rattle.registers.specs.Machine.{filledMask}
+use Rattle.registers.specs.Private.{Empties, Counted}
 use Rattle.registers.proofs.Laws.{valid-checked}
 use Rattle.host.specs.SerialNumber.{counterOf}
 use Rattle.terminal.specs.Record.{dukpt, view, ValidRecord}
 use Rattle.terminal.specs.Promises.{NextNumber, invalid, exhausted, short, given}
-use Rattle.terminal.specs.Private.{Empties, Counted}
 use Rattle.terminal.specs.declared.state.Terminal.{Terminal}
 use Rattle.terminal.proofs.Records.{stops-counted, runs-counted, valid-made}
 
@@ -38,7 +38,7 @@ counted? counter true = map-dec (λ z. inr (refl, z)) (stops-counted counter tru
 counted? counter false = map-dec (λ p. inl (refl, p)) (runs-counted counter false refl) (permitted? counter)
 
 module _ (t : Terminal) where
-  empties? : Dec (Empties t)
+  empties? : Dec (Empties dukpt (view t))
   empties? = below? _ (λ b. implies? (ℕ-discrete (bit (t .filled) b) 0) (ℕ-discrete (getD (t .keys) b 0) 0)) 21
 
   pub valid? : Dec (ValidRecord t)

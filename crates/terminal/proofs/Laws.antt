@@ -1,9 +1,11 @@
--- What other crates cite: demand 3, that one number applies to a call, that a call leaves a record that hangs together, and a refused loading.
+-- Demand 3, that one number applies to a call, a refused loading, and what other crates cite.
 pub use Rattle.terminal.proofs.Theorem.{demand3}
 pub use Rattle.terminal.proofs.Decided.{valid?, some-number, one-number}
-use mathlib.Core.Path.{_≡_, refl, ap, _∙_}
+pub use Rattle.terminal.proofs.Records.{on-done, on-refused}
+pub use Rattle.terminal.proofs.Loadings.{load-cases}
+use mathlib.Core.Path.{_≡_, ap, _∙_}
 use mathlib.Core.Logic.{_⊎_, inl, inr}
-use mathlib.Core.Bool.{false, false≢true}
+use mathlib.Core.Bool.{false≢true}
 use mathlib.Core.List.{List}
 use Prim.Native.Nat.{ℕ}
 use native.Mathlib.Omega.{arith}
@@ -11,36 +13,12 @@ use lib.ListN.{length}
 use Rattle.lent.specs.Numbers.{size, badRecord}
 use Rattle.lent.specs.Result.{done, refused, number}
 use Rattle.registers.specs.Rule.{Running, Stopped}
-use Rattle.registers.proofs.Laws.{spent-valid}
-use Rattle.host.specs.SerialNumber.{counterOf}
-use Rattle.terminal.specs.Record.{dukpt, view, ValidRecord, loadedRecord, afterKey, zeroRecord}
-use Rattle.terminal.specs.Promises.{Load, loading, recordOrZero, NextNumber, invalid, exhausted, short, given, Next}
-use Rattle.terminal.specs.declared.state.Terminal.{Terminal}
+use Rattle.terminal.specs.Record.{dukpt, view, ValidRecord, loadedRecord, zeroRecord}
+use Rattle.terminal.specs.Promises.{Load, loading, recordOrZero, invalid, Next}
 use Rattle.terminal.specs.declared.loading.Loaded.{Loaded}
 use Rattle.terminal.specs.declared.calls.NextKey.{NextKey}
-use Rattle.terminal.proofs.Records.{runs, on-done, on-refused, load-cases}
+use Rattle.terminal.proofs.Loadings.{load-cases}
 use Rattle.terminal.proofs.Decided.{one-number}
-use Rattle.terminal.proofs.Theorem.{view-after, after-serial}
-
--- ---- a call leaves a record that hangs together
-
-after-valid : (t : Terminal) → ValidRecord t → t .exhausted ≡ false → ValidRecord (afterKey t)
-after-valid t ok e = record {
-  clear = ap counterOf (after-serial t) ∙ ok .clear;
-  state = rw (view-after t) (spent-valid dukpt (view t) (runs t ok e));
-}
-
-pub next-valid : (t : Terminal) (before after : List ℕ) (r : NextKey) → ValidRecord t → Next t before r after → ValidRecord (r .terminal)
-next-valid t before after r ok next = go (r .number) refl (next .number)
-  where
-    kept : ¬ (r .number ≡ 0) → ValidRecord (r .terminal)
-    kept h = rw (next .terminal ∙ on-refused _ _ h) ok
-
-    go : (n : ℕ) → r .number ≡ n → NextNumber t (length before) n → ValidRecord (r .terminal)
-    go n e (invalid bad) = absurd (bad ok)
-    go n e (exhausted v stop) = kept (λ z. omega arith)
-    go n e (short v run h) = kept (λ z. omega arith)
-    go n e (given v run h) = rw (next .terminal ∙ on-done _ _ e) (after-valid t ok run)
 
 -- ---- a refused loading
 

@@ -1,4 +1,4 @@
-pub mod Places
+pub mod Loadings
 pub mod Records
 pub mod Decided
 pub mod Theorem

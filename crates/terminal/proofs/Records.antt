@@ -1,27 +1,23 @@
--- Records and promises, made from what the code finds.
+-- Records and the promise of `next_key`, made from what the code finds.
 use borrow.Author.Tests.{ne-eqb, le-leb}
 use mathlib.Core.Path.{_≡_, sym, ap, _∙_}
-use mathlib.Core.Logic.{_⊎_, inl, inr, by-cases}
+use mathlib.Core.Logic.{_⊎_, inl, inr}
 use mathlib.Core.Bool.{Bool, true, false, false≢true}
 use mathlib.Core.List.{List}
 use Prim.Native.Nat.{ℕ, _≤_}
-use native.Mathlib.Decide.{ℕ-discrete}
-use native.Mathlib.Omega.{arith}
 use lib.ListN.{length, replicate}
-use Rattle.lent.specs.Result.{done, refused, number, Written, over}
-use Rattle.lent.specs.Numbers.{size}
+use Rattle.lent.specs.Result.{done, Written, over}
 use Rattle.lent.specs.Words.{wordBytes}
 use Rattle.lent.proofs.Bases.{to-length}
 use Rattle.registers.specs.Counters.{Permitted, nextCounter}
 use Rattle.registers.specs.Machine.{State, filledMask, renewed}
+use Rattle.registers.specs.Private.{Empties, Counted}
 use Rattle.registers.specs.Rule.{Running, Stopped}
 use Rattle.registers.proofs.Laws.{checked-valid, spent-next, spent-none}
 use Rattle.host.specs.SerialNumber.{counterOf, clearedTail}
-use Rattle.terminal.specs.Record.{dukpt, view, recordOf, ValidRecord, loadedRecord, afterKey, zeroRecord}
-use Rattle.terminal.specs.Promises.{loading, recordOrZero, Load, NextNumber, onDone, Next}
-use Rattle.terminal.specs.Private.{Empties, Counted}
+use Rattle.terminal.specs.Record.{dukpt, view, recordOf, ValidRecord, afterKey}
+use Rattle.terminal.specs.Promises.{NextNumber, onDone, Next}
 use Rattle.terminal.specs.declared.state.Terminal.{Terminal}
-use Rattle.terminal.specs.declared.loading.Loaded.{Loaded}
 
 -- ---- by the number of an answer
 
@@ -44,7 +40,7 @@ runs-counted counter exhausted e (inr (f, z)) = absurd (false≢true (sym e ∙ 
 
 module _ (t : Terminal) where
   -- a record that passes the tests hangs together
-  pub valid-made : counterOf (t .serial) ≡ 0 → Counted (t .counter) (t .exhausted) → t .filled ≡ filledMask (t .counter) → Empties t → length (t .keys) ≡ 21 → ValidRecord t
+  pub valid-made : counterOf (t .serial) ≡ 0 → Counted (t .counter) (t .exhausted) → t .filled ≡ filledMask (t .counter) → Empties dukpt (view t) → length (t .keys) ≡ 21 → ValidRecord t
   valid-made clear counted mask empties size = record {
     clear = clear;
     state = checked-valid dukpt (view t) (record { size = size; phase = counted; mask = mask; empties = empties });
@@ -82,45 +78,3 @@ module _ (t : Terminal) where
 pub written : (x : ℕ) (before after : List ℕ) {number len : ℕ} → 8 ≤ length before → Written (done (wordBytes x)) before number len after
     → after ≡ over (wordBytes x) before
 written x before after h w = rw (to-length 256 8 x, le-leb 8 (length before) h) at (w .memory)
-
--- ---- loading
-
-module _ (initial serial : List ℕ) where
-  loads : length initial ≡ 8 → length serial ≡ 10 → loading initial serial ≡ done (loadedRecord initial serial)
-  unfolding loading
-  loads e f = simp (e, f)
-
-  no-key : ¬ (length initial ≡ 8) → loading initial serial ≡ refused size
-  unfolding loading
-  no-key h = simp (ne-eqb _ _ h)
-
-  no-serial : length initial ≡ 8 → ¬ (length serial ≡ 10) → loading initial serial ≡ refused size
-  unfolding loading
-  no-serial e h = simp (e, ne-eqb _ _ h)
-
-  pub load-cases : (loading initial serial ≡ done (loadedRecord initial serial)) ⊎ (loading initial serial ≡ refused size)
-  load-cases =
-      by-cases (ℕ-discrete (length initial) 8)
-      (λ e. by-cases (ℕ-discrete (length serial) 10) (λ f. inl (loads e f)) (λ f. inr (no-serial e f)))
-      (λ e. inr (no-key e))
-
-  -- the promise, where it is refused and where it is done
-  made-refused : loading initial serial ≡ refused size → Load initial serial (record { number = size; terminal = zeroRecord })
-  made-refused e = record { number = ap number (sym e); terminal = ap recordOrZero (sym e) }
-
-  pub key-refused : ¬ (length initial ≡ 8) → Load initial serial (record { number = size; terminal = zeroRecord })
-  key-refused h = made-refused (no-key h)
-
-  pub serial-refused : length initial ≡ 8 → ¬ (length serial ≡ 10) → Load initial serial (record { number = size; terminal = zeroRecord })
-  serial-refused e h = made-refused (no-serial e h)
-
-  pub load-done : length initial ≡ 8 → length serial ≡ 10 → (t : Terminal) → t ≡ loadedRecord initial serial → Load initial serial (record { number = 0; terminal = t })
-  load-done e f t q = let l = sym (loads e f) in record { number = ap number l; terminal = q ∙ ap recordOrZero l }
-
-  -- a loading that was done
-  pub loaded-done : {r : Loaded} → Load initial serial r → r .number ≡ 0 → r .terminal ≡ loadedRecord initial serial
-  loaded-done {r} load h = go load-cases
-    where
-      go : (loading initial serial ≡ done (loadedRecord initial serial)) ⊎ (loading initial serial ≡ refused size) → r .terminal ≡ loadedRecord initial serial
-      go (inl e) = load .terminal ∙ ap recordOrZero e
-      go (inr e) = absurd (let z : _≡_ {A = ℕ} 0 size = sym h ∙ load .number ∙ ap number e in omega arith)

@@ -1,32 +1,33 @@
--- Demand 3: the promises of the functions, carried over every list of calls by the register machine's theorem.
+-- Demand 3: the register machine's law of one call, with the functions' promises, carried over every list of calls.
 use mathlib.Core.Path.{_≡_, refl, sym, ap, _∙_, subst}
-use mathlib.Core.Bool.{Bool, true, false, false≢true, cond}
-use mathlib.Core.List.{List, [], _∷_, _++_}
+use mathlib.Core.Bool.{Bool, true, false, false≢true}
+use mathlib.Core.List.{List}
 use Prim.Native.Nat.{ℕ, suc, _+_, _≤_}
-use native.Mathlib.Nat.{zero-add, add-zero, mod-eq-of-lt}
-use native.Mathlib.Numerals.{one-add}
+use native.Mathlib.Nat.{add-zero}
+use native.Mathlib.Numerals.{add-one}
 use native.Mathlib.Omega.{arith}
 use lib.Dec.{lit<, eqb}
 use lib.ListN.{length, take, drop}
 use lib.Seq.{take-at, drop-at}
-use Rattle.lent.specs.Result.{Answered, done, number, fixed, over}
+use Rattle.lent.specs.Choice.{pick}
+use Rattle.lent.specs.Result.{Result, Answered, done, number, fixed, over}
 use Rattle.lent.specs.Words.{word, wordBytes}
-use Rattle.lent.proofs.Bases.{to-length, from-to}
+use Rattle.lent.proofs.Bases.{to-length, word-back}
 use Rattle.registers.specs.Counters.{Permitted, nextCounter}
-use Rattle.registers.specs.Machine.{State, Outcome, given, readyKey, moved, ended, spent, outcome, after, loaded}
-use Rattle.registers.specs.Demand.{Follows, GivenFor}
-use Rattle.registers.proofs.Calls.{ready-most, follows-most}
-use Rattle.registers.proofs.Laws.{Step, past, short, full, step, call-full, loaded-follows, waiting, follows-valid}
+use Rattle.registers.specs.Machine.{State, readyKey, moved, ended, spent, outcome, after, loaded}
+use Rattle.registers.specs.Progress.{Follows, GivenFor}
+use Rattle.registers.proofs.Laws.{Step, past, short, full, step, call-full, loaded-follows, waiting, ready-most, follows-most, follows-valid, each-call, each-record}
 use Rattle.host.specs.SerialNumber.{counterOf, withCounter, clearedTail}
 use Rattle.host.specs.Derivation.{givenOut, initialKeyOf, hostKeyOf}
 use Rattle.host.specs.Entries.{hostKey}
 use Rattle.host.proofs.Laws.{Fit, fit, counter-with, with-with, tail-with, host-with, host-done, initial-lt, initial-done}
 use Rattle.terminal.specs.Record.{dukpt, view, recordOf, ValidRecord, loadedRecord, afterKey}
-use Rattle.terminal.specs.Promises.{NextNumber, Next, onDone}
-use Rattle.terminal.specs.Demand.{Call, Trace, none, call, recordAfter, doneIn, GivesNth, GivesNothing, CallDemand, RecordDemand, Demand, Demand3}
+use Rattle.terminal.specs.Promises.{NextNumber}
+use Rattle.terminal.specs.Demand.{Call, Promise, returned, keysGiven, Trace, GivesNth, GivesNothing, CallDemand, RecordDemand, Demand, Demand3}
 use Rattle.terminal.specs.Promises as promises
 use Rattle.terminal.specs.declared.state.Terminal.{Terminal}
-use Rattle.terminal.proofs.Records.{on-done, on-refused, loaded-done}
+use Rattle.terminal.proofs.Loadings.{loaded-done}
+use Rattle.terminal.proofs.Records.{on-done, on-refused}
 
 -- ---- the record and the machine's state
 
@@ -35,7 +36,7 @@ spent-serial : (s : State ℕ) → spent dukpt s .serial ≡ s .serial
 unfolding spent
 spent-serial s = go (eqb (nextCounter (s .counter)) 0)
   where
-    go : (b : Bool) → cond b (ended dukpt s) (moved dukpt s (nextCounter (s .counter))) .serial ≡ s .serial
+    go : (b : Bool) → pick b (ended dukpt s) (moved dukpt s (nextCounter (s .counter))) .serial ≡ s .serial
     go true = refl
     go false = refl
 
@@ -44,12 +45,12 @@ view-record : (s : State ℕ) (serial : List ℕ) → clearedTail serial ≡ s .
 view-record s serial e =
     ap (λ (x : ℕ). record { keys = s .keys; filled = s .filled; serial = x; counter = s .counter; exhausted = s .exhausted }) e
 
-pub view-after : (t : Terminal) → view (afterKey t) ≡ spent dukpt (view t)
+view-after : (t : Terminal) → view (afterKey t) ≡ spent dukpt (view t)
 unfolding afterKey
 view-after t = view-record (spent dukpt (view t)) (t .serial) (sym (spent-serial (view t)))
 
 -- the serial number in a record: kept by giving out a key, cleared by loading
-pub after-serial : (t : Terminal) → afterKey t .serial ≡ t .serial
+after-serial : (t : Terminal) → afterKey t .serial ≡ t .serial
 unfolding afterKey
 after-serial t = refl
 
@@ -96,12 +97,7 @@ module _ (derivation serial : List ℕ) (ok : Fit derivation serial) where
       let e = host-done serial c derivation p ok in
       (answer .number ∙ ap number e, answer .value ∙ ap (fixed 8) e)
 
-  -- a call, and what it leaves
-  record Called (n : ℕ) (t : Terminal) (x : Call) : Type 0 where
-    demand : CallDemand derivation serial n t x
-    leaves : Good (onDone (x .answer .number) 1 0 + n) (x .answer .terminal)
-
-  module _ (n : ℕ) (t : Terminal) (x : Call) (good : Good n t) (next : Next t (x .before) (x .answer) (x .after)) where
+  module _ (n : ℕ) (t : Terminal) (x : Call) (good : Good n t) (next : Promise t x) where
     nothing : ¬ (x .answer .number ≡ 0) → GivesNothing t x
     nothing h = record {
       counter = next .counter ∙ on-refused _ _ h;
@@ -111,8 +107,8 @@ module _ (derivation serial : List ℕ) (ok : Fit derivation serial) where
     }
 
     -- a refusal leaves the record
-    stays : ¬ (x .answer .number ≡ 0) → Good (onDone (x .answer .number) 1 0 + n) (x .answer .terminal)
-    stays h = rw (on-refused {A = ℕ} {n = x .answer .number} 1 0 h, zero-add n, nothing h .terminal) good
+    stays : ¬ (x .answer .number ≡ 0) → Good (n + keysGiven x) (returned x)
+    stays h = rw (on-refused {A = ℕ} {n = x .answer .number} 1 0 h, add-zero n, nothing h .terminal) good
 
     -- what the machine gives out is in the buffer
     gives : x .answer .number ≡ 0 → GivenFor dukpt initial tail (suc n) (wordBytes (givenOut (readyKey dukpt (view t))), t .counter)
@@ -143,14 +139,18 @@ module _ (derivation serial : List ℕ) (ok : Fit derivation serial) where
 
     -- a done call leaves the machine's next state
     moves : {g : List ℕ × ℕ} {s : State ℕ} → x .answer .number ≡ 0 → t .exhausted ≡ false → 8 ≤ room
-        → outcome dukpt (view t) room ≡ given g → after dukpt (view t) room ≡ s
+        → outcome dukpt (view t) room ≡ done g → after dukpt (view t) room ≡ s
         → (g ≡ ready-now) × (s ≡ view (x .answer .terminal))
     moves {g} {s} e run h p q =
         let made = call-full dukpt (view t) room run h in
         let left : x .answer .terminal ≡ afterKey t = next .terminal ∙ on-done _ _ e in
         (cc (made .0), sym q ∙ made .1 ∙ sym (ap view left ∙ view-after t))
 
-    called : Called n t x
+    -- what a call does, and what it leaves
+    abbrev Called : Type 0
+    Called = CallDemand derivation serial n t x × Good (n + keysGiven x) (returned x)
+
+    called : Called
     called = go (x .answer .number) (next .number) refl (outcome dukpt (view t) room) (after dukpt (view t) room) refl refl
         (step dukpt initial tail n (view t) room (good .follows))
       where
@@ -158,99 +158,73 @@ module _ (derivation serial : List ℕ) (ok : Fit derivation serial) where
         both e f = absurd (false≢true (sym f ∙ e))
 
         go : (m : ℕ) → NextNumber t room m → x .answer .number ≡ m
-            → (o : Outcome (List ℕ × ℕ)) (s : State ℕ) → outcome dukpt (view t) room ≡ o → after dukpt (view t) room ≡ s
-            → Step dukpt initial tail n (view t) room o s → Called n t x
+            → (o : Result (List ℕ × ℕ)) (s : State ℕ) → outcome dukpt (view t) room ≡ o → after dukpt (view t) room ≡ s
+            → Step dukpt initial tail n (view t) room o s → Called
         go m (promises.invalid bad) e o s p q did = absurd (bad (good-valid good))
-        go m (promises.exhausted v stop) e o s p q (past finished) = record {
-          demand = record {
+        go m (promises.exhausted v stop) e o s p q (past finished) = (
+          record {
             full = λ few h. absurd (omega (arith, finished .all));
             short = λ few h. absurd (omega (arith, finished .all));
             over = λ all. e;
             done = λ z. absurd (omega arith);
             refused = nothing;
-          };
-          leaves = stays (λ z. omega arith);
-        }
+          },
+          stays (λ z. omega arith),
+        )
         go m (promises.exhausted v stop) e o s p q (short ready h) = both stop (ready .running .runs)
         go m (promises.exhausted v stop) e o s p q (full ready h for left) = both stop (ready .running .runs)
         go m (promises.short v run h) e o s p q (past finished) = both (finished .stopped .stopped) run
-        go m (promises.short v run h) e o s p q (short ready l) = record {
-          demand = record {
+        go m (promises.short v run h) e o s p q (short ready l) = (
+          record {
             full = λ few k. absurd (omega arith);
             short = λ few k. e;
             over = λ all. absurd (omega (arith, ready-most dukpt initial tail n (view t) ready));
             done = λ z. absurd (omega arith);
             refused = nothing;
-          };
-          leaves = stays (λ z. omega arith);
-        }
+          },
+          stays (λ z. omega arith),
+        )
         go m (promises.short v run h) e o s p q (full ready l for left) = absurd (omega arith)
         go m (promises.given v run h) e o s p q (past finished) = both (finished .stopped .stopped) run
         go m (promises.given v run h) e o s p q (short ready l) = absurd (omega arith)
         go m (promises.given v run h) e o s p q (full ready l for left) =
-            let moved-on = moves e run h p q in
-            record {
-              demand = record {
+            let moved-on = moves e run h p q in (
+              record {
                 full = λ few k. e;
                 short = λ few k. absurd (omega arith);
                 over = λ all. absurd (omega (arith, ready-most dukpt initial tail n (view t) ready));
                 done = λ z. gives e (subst (GivenFor dukpt initial tail (suc n)) (moved-on .0) for);
                 refused = λ k. absurd (k e);
-              };
-              leaves = record {
-                follows = rw (on-done {A = ℕ} {n = x .answer .number} 1 0 e, one-add n) (subst (Follows dukpt initial tail (suc n)) (moved-on .1) left);
+              },
+              record {
+                follows = rw (on-done {A = ℕ} {n = x .answer .number} 1 0 e, add-one n) (subst (Follows dukpt initial tail (suc n)) (moved-on .1) left);
                 same = ap (λ (u : Terminal). u .serial) (next .terminal ∙ on-done _ _ e) ∙ after-serial t ∙ good .same;
-              };
-            }
+              },
+            )
 
   -- ---- the list
 
-  follow : (calls : List Call) (n : ℕ) (t : Terminal) → Good n t → Trace t calls → Good (doneIn calls + n) (recordAfter t calls)
-  unfolding doneIn recordAfter
-  follow [] n t good none = rw (zero-add n) good
-  follow (x ∷ later) n t good (call next more) =
-      let one = onDone {A = ℕ} (x .answer .number) 1 0 in
-      let count : doneIn later + (one + n) ≡ one + doneIn later + n = omega arith in
-      rw (← count) (follow later (one + n) (x .answer .terminal) (called n t x good next .leaves) more)
+  good-record : (n : ℕ) (t : Terminal) → Good n t → RecordDemand derivation serial n t
+  good-record n t good = record {
+    most = follows-most dukpt initial tail n (view t) (good .follows);
+    valid = good-valid good;
+    follows = good .follows;
+    registers = waiting dukpt initial tail n (view t) (good .follows);
+  }
 
-  -- a list of calls, cut in two
-  cut : (earlier later : List Call) (t : Terminal) → Trace t (earlier ++ later) → Trace t earlier × Trace (recordAfter t earlier) later
-  unfolding recordAfter
-  cut [] later t traced = (none, traced)
-  cut (x ∷ earlier) later t (call next more) = let h = cut earlier later (x .answer .terminal) more in (call next (h .0), h .1)
-
-  module _ (t : Terminal) (good : Good 0 t) (calls : List Call) (traced : Trace t calls) where
-    good-at : (earlier later : List Call) → calls ≡ earlier ++ later → Good (doneIn earlier) (recordAfter t earlier)
-    good-at earlier later e = rw (add-zero (doneIn earlier)) at (follow earlier 0 t good (cut earlier later t (subst (Trace t) e traced) .0))
-
-    theorem : Demand derivation serial t calls
-    theorem = record { each-call = λ earlier x later e. at-call earlier x later e; each-record = λ earlier later e. at-record earlier later e }
-      where
-        at-call : (earlier : List Call) (x : Call) (later : List Call) → calls ≡ earlier ++ (x ∷ later)
-            → CallDemand derivation serial (doneIn earlier) (recordAfter t earlier) x
-        at-call earlier x later e = go (cut earlier (x ∷ later) t (subst (Trace t) e traced) .1)
-          where
-            go : Trace (recordAfter t earlier) (x ∷ later) → CallDemand derivation serial (doneIn earlier) (recordAfter t earlier) x
-            go (call next more) = called (doneIn earlier) (recordAfter t earlier) x (good-at earlier (x ∷ later) e) next .demand
-
-        at-record : (earlier later : List Call) → calls ≡ earlier ++ later → RecordDemand derivation serial (doneIn earlier) (recordAfter t earlier)
-        at-record earlier later e =
-            let now = good-at earlier later e in
-            let n = doneIn earlier in
-            let s = view (recordAfter t earlier) in
-            record {
-              most = follows-most dukpt initial tail n s (now .follows);
-              valid = good-valid now;
-              follows = now .follows;
-              registers = waiting dukpt initial tail n s (now .follows);
-            }
+  theorem : (t : Terminal) → Good 0 t → (calls : List Call) → Trace t calls → Demand derivation serial t calls
+  theorem t good calls traced = record {
+    each-call = each-call returned keysGiven Promise Good (CallDemand derivation serial) called t calls good traced;
+    each-record = λ earlier later e.
+        good-record _ _ (each-record returned keysGiven Promise Good (CallDemand derivation serial) called t calls good traced earlier later e);
+  }
 
 -- ---- the loading
 
 -- the initial key as the terminal reads it
 initial-read : (derivation serial key : List ℕ) → key ≡ wordBytes (initialKeyOf derivation serial) → word key ≡ initialKeyOf derivation serial
 initial-read derivation serial key e =
-    ap word e ∙ from-to 256 (lit< tt) 8 (initialKeyOf derivation serial) ∙ mod-eq-of-lt (initial-lt derivation serial)
+    ap word e ∙ word-back (initialKeyOf derivation serial) (initial-lt derivation serial)
 
 pub demand3 : Demand3
 demand3 = λ derivation serial n key answer n-done loading promise l-done calls traced.

@@ -1,15 +1,16 @@
 -- Demand 3 (01, Terminal keys): what holds of every list of calls for the next key that starts from a loading, however long.
 use mathlib.Core.Path.{_≡_}
 use mathlib.Core.Logic.{_⊎_}
-use mathlib.Core.List.{List, [], _∷_, _++_}
-use Prim.Native.Nat.{ℕ, suc, _+_, _≤_, _<_}
+use mathlib.Core.List.{List, _∷_, _++_}
+use Prim.Native.Nat.{ℕ, suc, _≤_, _<_}
 use lib.ListN.{length, take, drop, replicate}
 use Rattle.lent.specs.Result.{Answered}
 use Rattle.lent.specs.Words.{wordBytes}
 use Rattle.lent.specs.Numbers as numbers
 use Rattle.registers.specs.Counters.{Nth, counterTotal}
 use Rattle.registers.specs.Rule.{Blank}
-use Rattle.registers.specs.Demand.{Waits, Follows}
+use Rattle.registers.specs.Progress.{Waits, Follows}
+use Rattle.registers.specs.Trace as trace
 use Rattle.host.specs.SerialNumber.{withCounter, clearedTail}
 use Rattle.host.specs.Derivation.{initialKeyOf, hostKeyOf}
 use Rattle.host.specs.Entries.{initialKey, hostKey}
@@ -27,22 +28,29 @@ pub record Call : Type 0 where
   pub answer : NextKey
   pub after : List ℕ
 
+-- the promise of `next_key` holds of the call x with the record t
+abbrev pub Promise : Terminal → Call → Type 0
+Promise t x = Next t (x .before) (x .answer) (x .after)
+
+-- the record that it returns, and how many keys it gives out: one where it is done
+abbrev pub returned : Call → Terminal
+returned x = x .answer .terminal
+
+abbrev pub keysGiven : Call → ℕ
+keysGiven x = onDone (x .answer .number) 1 0
+
 -- Calls that keep the promise of `next_key`: the first gets the record t, each later one the record that the last one returned, a refused
 -- one too.
-pub data Trace : Terminal → List Call → Type 0 where
-  none : {t : Terminal} → Trace t []
-  call : {t : Terminal} {x : Call} {later : List Call}
-      → Next t (x .before) (x .answer) (x .after) → Trace (x .answer .terminal) later → Trace t (x ∷ later)
+abbrev pub Trace : Terminal → List Call → Type 0
+Trace = trace.Trace returned Promise
 
 -- the record that they leave
-unfoldable pub recordAfter : Terminal → List Call → Terminal
-recordAfter t [] = t
-recordAfter t (x ∷ later) = recordAfter (x .answer .terminal) later
+abbrev pub recordAfter : Terminal → List Call → Terminal
+recordAfter = trace.recordAfter returned
 
 -- how many of them are done, and so how many keys they gave out
-unfoldable pub doneIn : List Call → ℕ
-doneIn [] = 0
-doneIn (x ∷ later) = onDone (x .answer .number) 1 0 + doneIn later
+abbrev pub doneIn : List Call → ℕ
+doneIn = trace.doneIn keysGiven
 
 -- ---- what is demanded
 

@@ -1,4 +1,3 @@
 pub mod Record
 pub mod Promises
 pub mod Demand
-pub mod Private

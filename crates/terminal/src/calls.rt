@@ -1,5 +1,5 @@
 // The terminal's call for its next key.
-use crate::registers_of::renewed;
+use crate::filling::renewed;
 use crate::state::Terminal;
 use crate::state::valid;
 ghost use mathlib.Core.Path.{_≡_};

@@ -1,7 +1,7 @@
 // A DUKPT terminal, single length (01, Terminal keys): its record, loading, and the call for its next key.
 mod calls;
+mod filling;
 mod loading;
-mod registers_of;
 mod state;
 
 pub use calls::NextKey;

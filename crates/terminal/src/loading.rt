@@ -1,5 +1,5 @@
 // Loading a terminal.
-use crate::registers_of::filled_from;
+use crate::filling::filled_from;
 use crate::state::Terminal;
 ghost use mathlib.Core.Path.{_≡_};
 ghost use Rattle.lent.specs.Numbers.{size};

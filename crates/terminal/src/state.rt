@@ -2,8 +2,8 @@
 ghost use mathlib.Core.Path.{_≡_};
 ghost use mathlib.Core.Bool.{true};
 ghost use mathlib.Core.Logic.{_↔_};
-ghost use Rattle.terminal.specs.Record.{ValidRecord};
-ghost use Rattle.terminal.specs.Private.{Empties, Counted};
+ghost use Rattle.registers.specs.Private.{Empties, Counted};
+ghost use Rattle.terminal.specs.Record.{dukpt, view, ValidRecord};
 
 // Twenty-one registers of eight bytes, which of them are filled (bit b for register b), the serial number with its counter cleared, the
 // counter to be given out next, and whether the terminal is exhausted.
@@ -17,7 +17,7 @@ pub struct Terminal {
 
 // Whether every empty register is zero.
 fn empties(t: Terminal) -> bool
-    ensures { λ r. ⌜ (r ≡ true) ↔ Empties t ⌝ }
+    ensures { λ r. ⌜ (r ≡ true) ↔ Empties dukpt (view t) ⌝ }
 {
     let mut b: usize = 0;
     while b < 21 {

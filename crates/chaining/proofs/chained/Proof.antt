@@ -4,8 +4,8 @@ use mathlib.Core.Path.{_≡_, refl}
 use Prim.Native.Nat.{_≤_, _-_, _*_, _+_, _/_}
 use native.Mathlib.Numerals.{add-one}
 use native.Mathlib.Omega.{arith}
-use lib.ListN.{length, drop, length-drop}
-use lib.Seq.{take-all}
+use lib.ListN.{length}
+use Rattle.lent.proofs.Lists.{part-rest}
 use Rattle.cipher.proofs.Laws.{encrypted-with}
 use Rattle.chaining.specs.Chain.{blocks, chainedTo, chained}
 use Rattle.chaining.proofs.chained.Statement.{statement}
@@ -56,9 +56,8 @@ unfolding chainedTo
 loop-again c =
     let l = c .before .before .before .before .loop in
     let s = c .before .before .before .before .before .before .before .args .s .now in
-    let at = 8 * l .i in
-    let rest = take-all (length s - at) (drop at s) (simp length-drop (omega arith)) in
-    (omega arith, rw (add-one (l .i), c .encrypt-with .ensures, c .before .before .before .before .before .schedule .ensures, encrypted-with, l .inv .1, c .before .word-of .ensures, rest))
+    let keys = c .before .before .before .before .before .schedule in
+    (omega arith, rw (add-one (l .i), c .encrypt-with .ensures, keys .ensures, encrypted-with, l .inv .1, c .before .word-of .ensures, part-rest (8 * l .i) s))
 
 returns : tie.Need-returns Inv-loop μ-loop
 unfolding chained blocks

@@ -15,22 +15,22 @@ returns : tie.Need-returns
 unfolding kept
 returns c = simp (sym (c .before .between .ensures) ∙ c .if1 .taken)
 
-between-requires-2 : tie.Need-between-requires-2
-between-requires-2 c κs = search needs
+is-digit-requires : tie.Need-is-digit-requires
+is-digit-requires c κs = search needs
 
 returns-2 : tie.Need-returns-2
 unfolding kept
 returns-2 c =
     simp (
       sym (c .before .before .before .between .ensures) ∙ c .before .before .if1 .left,
-      sym (c .before .between2 .ensures) ∙ c .if2 .taken,
+      sym (c .before .is-digit .ensures) ∙ c .if2 .taken,
     )
 
 -- no letter and no digit
 others : (c : tie.Else2) → (capital (c .before .before .before .before .args .x) ≡ false) × (digit (c .before .before .before .before .args .x) ≡ false)
 others c = (
   sym (c .before .before .before .between .ensures) ∙ c .before .before .if1 .left,
-  sym (c .before .between2 .ensures) ∙ c .if2 .left,
+  sym (c .before .is-digit .ensures) ∙ c .if2 .left,
 )
 
 returns-3 : tie.Need-returns-3
@@ -52,4 +52,4 @@ returns-5 c =
 pub kept-spec : {M : Type 1} → statement M
 kept-spec =
     tie.close
-    (tie.spec between-requires returns between-requires-2 returns-2 returns-3 returns-4 returns-5)
+    (tie.spec between-requires returns is-digit-requires returns-2 returns-3 returns-4 returns-5)

@@ -5,10 +5,10 @@ use Rattle.drain.proofs.drained.Statement.{statement}
 use Rattle.drain.proofs.drained.Tie as tie
 
 abbrev Inv-loop : tie.InvT-loop
-Inv-loop derivation t₀ seen₀ calls₀ t10 t seen calls = calls ≤ 1048577
+Inv-loop derivation t₀ seen₀ calls₀ t10 t seen calls = calls ≤ 1048576
 
 abbrev μ-loop : tie.MeasureT-loop
-μ-loop derivation t₀ seen₀ calls₀ t10 t seen calls = 1048577 - calls
+μ-loop derivation t₀ seen₀ calls₀ t10 t seen calls = 1048576 - calls
 
 loop-holds : tie.Need-loop-holds Inv-loop μ-loop
 loop-holds c = search needs

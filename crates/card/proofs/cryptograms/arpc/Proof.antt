@@ -36,8 +36,8 @@ word-of-requires c κs = search needs
 word-of-requires-2 : tie.Need-word-of-requires-2
 word-of-requires-2 c κs = search needs
 
-encipher-requires : tie.Need-encipher-requires
-encipher-requires c κs = search needs
+encipher-word-requires : tie.Need-encipher-word-requires
+encipher-word-requires c κs = search needs
 
 block-of-requires : tie.Need-block-of-requires
 block-of-requires c κs = search needs
@@ -54,7 +54,7 @@ returns-4 c =
       from-zeros-behind 256 8,
       ← w .word-of .ensures,
       ← c .before .before .word-of2 .ensures,
-      ← c .before .encipher .ensures,
+      ← c .before .encipher-word .ensures,
     ) (c .block-of .ensures)
 
 pub arpc-spec : {M : Type 1} → statement M
@@ -69,6 +69,6 @@ arpc-spec =
     returns-3
     word-of-requires
     word-of-requires-2
-    encipher-requires
+    encipher-word-requires
     block-of-requires
     returns-4)

@@ -2,7 +2,6 @@
 use borrow.Author.Needs.{needs}
 use mathlib.Core.Path.{sym}
 use lib.Seq.{length-take-le}
-use Rattle.lent.proofs.Lists.{part-rest}
 use Rattle.card.specs.Algorithm3.{macAlgorithm3}
 use Rattle.card.specs.Cryptograms.{arqcWord}
 use Rattle.card.proofs.cryptograms.arqc_word.Statement.{statement}
@@ -11,17 +10,8 @@ use Rattle.card.proofs.cryptograms.arqc_word.Tie as tie
 word-of-requires : tie.Need-word-of-requires
 word-of-requires c κs = search needs
 
-sub-word-of : tie.Need-sub-word-of
-sub-word-of c = search needs
-
-part-word-of-start : tie.Need-part-word-of-start
-part-word-of-start c = search needs
-
-part-word-of-end : tie.Need-part-word-of-end
-part-word-of-end c = search needs
-
-word-of-requires-2 : tie.Need-word-of-requires-2
-word-of-requires-2 c κs = search needs
+right-half-requires : tie.Need-right-half-requires
+right-half-requires c κs = search needs
 
 padded-bytes-requires : tie.Need-padded-bytes-requires
 padded-bytes-requires c κs = search needs
@@ -50,12 +40,10 @@ encrypt-requires c κs = search needs
 returns : tie.Need-returns
 unfolding arqcWord macAlgorithm3
 returns c =
-    let a = c .before .before .before .before .before .before .before .before .before .before .args in
     let k = c .before .before .before .before .before in
     rw (
-      ← k .before .before .word-of .ensures,
-      ← part-rest 8 (a .key .now),
-      ← k .word-of2 .ensures,
+      ← k .before .word-of .ensures,
+      ← k .right-half .ensures,
       ← c .before .before .before .before .padded-bytes .ensures,
       ← c .before .before .chained .ensures,
       ← c .before .decrypt .ensures,
@@ -67,10 +55,7 @@ arqc-word-spec =
     tie.close
     (tie.spec
     word-of-requires
-    sub-word-of
-    part-word-of-start
-    part-word-of-end
-    word-of-requires-2
+    right-half-requires
     padded-bytes-requires
     add-size
     mul-size

@@ -1,11 +1,10 @@
 -- `card_key` meets its contract.
 use borrow.Author.Needs.{needs}
 use borrow.Author.Tests.{eq-eqb, ne-eqb}
-use mathlib.Core.Path.{sym, _∙_}
-use Rattle.lent.proofs.Results.{refused-as}
+use Rattle.lent.proofs.Results.{refused-as, answered-done}
 use Rattle.card.specs.Entries.{derivationData, cardKey}
 use Rattle.card.specs.Turned.{turned}
-use Rattle.card.proofs.Derivations.{derived-bytes}
+use Rattle.card.proofs.Laws.{derivation-numbered}
 use Rattle.card.proofs.keys.card_key.Statement.{statement}
 use Rattle.card.proofs.keys.card_key.Tie as tie
 
@@ -45,7 +44,7 @@ returns-3 c =
     let d = c .before .before .before .before .before .before in
     let a = d .before .before .before .before .args in
     let r = d .derivation-data .ensures in
-    let e = derived-bytes (a .card .now) (a .sequence) (sym (c .before .before .before .before .if2 .left) ∙ r .number) (r .value) in
+    let e = answered-done 8 (derivationData (a .card .now) (a .sequence)) (derivation-numbered _ _) r (c .before .before .before .before .if2 .left) in
     simp (eq-eqb _ _ (d .before .if1 .left), e, ← c .before .word-of .ensures) (c .derived-key .ensures)
 
 pub card-key-spec : {M : Type 1} → statement M

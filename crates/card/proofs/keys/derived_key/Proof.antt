@@ -10,8 +10,8 @@ use Rattle.lent.specs.Words.{toBase, wordBytes}
 use Rattle.card.proofs.keys.derived_key.Statement.{statement}
 use Rattle.card.proofs.keys.derived_key.Tie as tie
 
-encipher-requires : tie.Need-encipher-requires
-encipher-requires c κs = search needs
+encipher-word-requires : tie.Need-encipher-word-requires
+encipher-word-requires c κs = search needs
 
 slice-aggregate-lend-word : tie.Need-slice-aggregate-lend-word
 slice-aggregate-lend-word c = search needs
@@ -19,8 +19,8 @@ slice-aggregate-lend-word c = search needs
 lend-word-requires : tie.Need-lend-word-requires
 lend-word-requires c κs = search needs
 
-encipher-requires-2 : tie.Need-encipher-requires-2
-encipher-requires-2 c κs = search needs
+encipher-word-requires-2 : tie.Need-encipher-word-requires-2
+encipher-word-requires-2 c κs = search needs
 
 sub-lend-word : tie.Need-sub-lend-word
 sub-lend-word c = search needs
@@ -43,8 +43,8 @@ two-words a b p q = rw (p .memory, rw (p .memory) at (q .memory))
 
 returns : tie.Need-returns
 returns c =
-    let f = c .before .before .before .before .before .before .before .encipher in
-    let g = c .before .before .before .encipher2 in
+    let f = c .before .before .before .before .before .before .before .encipher-word in
+    let g = c .before .before .before .encipher-word2 in
     record {
       number = refl;
       value = two-words (f .result) (g .result) (c .before .before .before .before .before .lend-word .ensures) (c .before .lend-word2 .ensures)
@@ -55,10 +55,10 @@ pub derived-key-spec : {M : Type 1} → statement M
 derived-key-spec =
     tie.close
     (tie.spec
-    encipher-requires
+    encipher-word-requires
     slice-aggregate-lend-word
     lend-word-requires
-    encipher-requires-2
+    encipher-word-requires-2
     sub-lend-word
     part-value-start
     part-value-end

@@ -3,8 +3,7 @@ use borrow.Author.Needs.{needs}
 use borrow.Author.Tests.{ne-eqb}
 use native.Mathlib.Omega.{arith}
 use Rattle.lent.specs.Result.{answerOf}
-use Rattle.lent.proofs.Results.{refused-written}
-use Rattle.chizuregwo.proofs.AnswerLaws.{done-most, written-short}
+use Rattle.lent.proofs.Results.{refused-written, done-most, written-short}
 use Rattle.chizuregwo.proofs.answers.lend.Statement.{statement}
 use Rattle.chizuregwo.proofs.answers.lend.Tie as tie
 

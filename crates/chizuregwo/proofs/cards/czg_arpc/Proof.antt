@@ -1,7 +1,7 @@
 -- `chizuregwo::cards::czg_arpc` meets its contract.
 use borrow.Author.Needs.{needs}
+use Rattle.card.proofs.Laws.{arpc-numbered}
 use Rattle.chizuregwo.proofs.AnswerLaws.{lent-as}
-use Rattle.chizuregwo.proofs.Refusals.{arpc-numbered}
 use Rattle.chizuregwo.proofs.cards.czg_arpc.Statement.{statement}
 use Rattle.chizuregwo.proofs.cards.czg_arpc.Tie as tie
 

@@ -1,7 +1,7 @@
 -- `chizuregwo::cards::czg_arqc` meets its contract.
 use borrow.Author.Needs.{needs}
+use Rattle.card.proofs.Laws.{arqc-numbered}
 use Rattle.chizuregwo.proofs.AnswerLaws.{lent-as}
-use Rattle.chizuregwo.proofs.Refusals.{arqc-numbered}
 use Rattle.chizuregwo.proofs.cards.czg_arqc.Statement.{statement}
 use Rattle.chizuregwo.proofs.cards.czg_arqc.Tie as tie
 

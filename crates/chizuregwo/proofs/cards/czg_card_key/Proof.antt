@@ -1,7 +1,7 @@
 -- `chizuregwo::cards::czg_card_key` meets its contract.
 use borrow.Author.Needs.{needs}
+use Rattle.card.proofs.Laws.{card-key-numbered}
 use Rattle.chizuregwo.proofs.AnswerLaws.{lent-as}
-use Rattle.chizuregwo.proofs.Refusals.{card-key-numbered}
 use Rattle.chizuregwo.proofs.cards.czg_card_key.Statement.{statement}
 use Rattle.chizuregwo.proofs.cards.czg_card_key.Tie as tie
 

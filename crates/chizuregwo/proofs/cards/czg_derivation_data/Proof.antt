@@ -1,7 +1,7 @@
 -- `chizuregwo::cards::czg_derivation_data` meets its contract.
 use borrow.Author.Needs.{needs}
+use Rattle.card.proofs.Laws.{derivation-numbered}
 use Rattle.chizuregwo.proofs.AnswerLaws.{lent-as}
-use Rattle.chizuregwo.proofs.Refusals.{derivation-numbered}
 use Rattle.chizuregwo.proofs.cards.czg_derivation_data.Statement.{statement}
 use Rattle.chizuregwo.proofs.cards.czg_derivation_data.Tie as tie
 

@@ -1,7 +1,7 @@
 -- `chizuregwo::cards::czg_session_key` meets its contract.
 use borrow.Author.Needs.{needs}
+use Rattle.card.proofs.Laws.{session-key-numbered}
 use Rattle.chizuregwo.proofs.AnswerLaws.{lent-as}
-use Rattle.chizuregwo.proofs.Refusals.{session-key-numbered}
 use Rattle.chizuregwo.proofs.cards.czg_session_key.Statement.{statement}
 use Rattle.chizuregwo.proofs.cards.czg_session_key.Tie as tie
 

@@ -1,7 +1,7 @@
 -- `chizuregwo::hosts::czg_host_key` meets its contract.
 use borrow.Author.Needs.{needs}
+use Rattle.host.proofs.Laws.{host-key-numbered}
 use Rattle.chizuregwo.proofs.AnswerLaws.{lent-as}
-use Rattle.chizuregwo.proofs.Refusals.{host-key-numbered}
 use Rattle.chizuregwo.proofs.hosts.czg_host_key.Statement.{statement}
 use Rattle.chizuregwo.proofs.hosts.czg_host_key.Tie as tie
 

@@ -1,7 +1,7 @@
 -- `chizuregwo::hosts::czg_initial_key` meets its contract.
 use borrow.Author.Needs.{needs}
+use Rattle.host.proofs.Laws.{initial-key-numbered}
 use Rattle.chizuregwo.proofs.AnswerLaws.{lent-as}
-use Rattle.chizuregwo.proofs.Refusals.{initial-key-numbered}
 use Rattle.chizuregwo.proofs.hosts.czg_initial_key.Statement.{statement}
 use Rattle.chizuregwo.proofs.hosts.czg_initial_key.Tie as tie
 

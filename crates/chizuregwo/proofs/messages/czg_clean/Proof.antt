@@ -1,8 +1,8 @@
 -- `chizuregwo::messages::czg_clean` meets its contract.
 use borrow.Author.Needs.{needs}
 use native.Mathlib.Omega.{arith}
+use Rattle.lent.proofs.Results.{written-short}
 use Rattle.chizuregwo.proofs.Lengths.{clean-most}
-use Rattle.chizuregwo.proofs.AnswerLaws.{written-short}
 use Rattle.chizuregwo.proofs.messages.czg_clean.Statement.{statement}
 use Rattle.chizuregwo.proofs.messages.czg_clean.Tie as tie
 

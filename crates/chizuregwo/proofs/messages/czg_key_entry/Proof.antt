@@ -1,8 +1,8 @@
 -- `chizuregwo::messages::czg_key_entry` meets its contract.
 use borrow.Author.Needs.{needs}
 use native.Mathlib.Omega.{arith}
+use Rattle.lent.proofs.Results.{written-short}
 use Rattle.chizuregwo.proofs.Lengths.{key-most}
-use Rattle.chizuregwo.proofs.AnswerLaws.{written-short}
 use Rattle.chizuregwo.proofs.messages.czg_key_entry.Statement.{statement}
 use Rattle.chizuregwo.proofs.messages.czg_key_entry.Tie as tie
 

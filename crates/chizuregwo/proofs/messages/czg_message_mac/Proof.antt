@@ -1,7 +1,7 @@
 -- `chizuregwo::messages::czg_message_mac` meets its contract.
 use borrow.Author.Needs.{needs}
+use Rattle.mac.proofs.Laws.{message-mac-numbered}
 use Rattle.chizuregwo.proofs.AnswerLaws.{lent-as}
-use Rattle.chizuregwo.proofs.Refusals.{message-mac-numbered}
 use Rattle.chizuregwo.proofs.messages.czg_message_mac.Statement.{statement}
 use Rattle.chizuregwo.proofs.messages.czg_message_mac.Tie as tie
 

@@ -2,7 +2,7 @@
 use borrow.Author.Needs.{needs}
 use native.Mathlib.Omega.{arith}
 use Rattle.message.proofs.Laws.{at-most-166}
-use Rattle.chizuregwo.proofs.AnswerLaws.{written-short}
+use Rattle.lent.proofs.Results.{written-short}
 use Rattle.chizuregwo.proofs.messages.czg_message_text.Statement.{statement}
 use Rattle.chizuregwo.proofs.messages.czg_message_text.Tie as tie
 

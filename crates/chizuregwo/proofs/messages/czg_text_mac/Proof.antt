@@ -1,7 +1,7 @@
 -- `chizuregwo::messages::czg_text_mac` meets its contract.
 use borrow.Author.Needs.{needs}
+use Rattle.mac.proofs.Laws.{text-mac-numbered}
 use Rattle.chizuregwo.proofs.AnswerLaws.{lent-as}
-use Rattle.chizuregwo.proofs.Refusals.{text-mac-numbered}
 use Rattle.chizuregwo.proofs.messages.czg_text_mac.Statement.{statement}
 use Rattle.chizuregwo.proofs.messages.czg_text_mac.Tie as tie
 

@@ -1,8 +1,8 @@
 -- `chizuregwo::pins::czg_pin_decipher` meets its contract.
 use borrow.Author.Needs.{needs}
 use native.Mathlib.Omega.{arith}
-use Rattle.chizuregwo.proofs.Lengths.{decipher-most}
-use Rattle.chizuregwo.proofs.AnswerLaws.{written-short}
+use Rattle.lent.proofs.Results.{written-short}
+use Rattle.pinblock.proofs.Laws.{decipher-most}
 use Rattle.chizuregwo.proofs.pins.czg_pin_decipher.Statement.{statement}
 use Rattle.chizuregwo.proofs.pins.czg_pin_decipher.Tie as tie
 

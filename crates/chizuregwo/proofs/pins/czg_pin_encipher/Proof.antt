@@ -1,7 +1,7 @@
 -- `chizuregwo::pins::czg_pin_encipher` meets its contract.
 use borrow.Author.Needs.{needs}
+use Rattle.pinblock.proofs.Laws.{encipher-numbered}
 use Rattle.chizuregwo.proofs.AnswerLaws.{lent-as}
-use Rattle.chizuregwo.proofs.Refusals.{encipher-numbered}
 use Rattle.chizuregwo.proofs.pins.czg_pin_encipher.Statement.{statement}
 use Rattle.chizuregwo.proofs.pins.czg_pin_encipher.Tie as tie
 

@@ -1,7 +1,7 @@
 -- `chizuregwo::pins::czg_pin_make` meets its contract.
 use borrow.Author.Needs.{needs}
+use Rattle.pinblock.proofs.Laws.{make-numbered}
 use Rattle.chizuregwo.proofs.AnswerLaws.{lent-as}
-use Rattle.chizuregwo.proofs.Refusals.{make-numbered}
 use Rattle.chizuregwo.proofs.pins.czg_pin_make.Statement.{statement}
 use Rattle.chizuregwo.proofs.pins.czg_pin_make.Tie as tie
 

@@ -1,7 +1,7 @@
 -- `chizuregwo::pins::czg_pin_make_with_card` meets its contract.
 use borrow.Author.Needs.{needs}
+use Rattle.pinblock.proofs.Laws.{make-with-card-numbered}
 use Rattle.chizuregwo.proofs.AnswerLaws.{lent-as}
-use Rattle.chizuregwo.proofs.Refusals.{make-with-card-numbered}
 use Rattle.chizuregwo.proofs.pins.czg_pin_make_with_card.Statement.{statement}
 use Rattle.chizuregwo.proofs.pins.czg_pin_make_with_card.Tie as tie
 

@@ -1,8 +1,8 @@
 -- `chizuregwo::pins::czg_pin_read` meets its contract.
 use borrow.Author.Needs.{needs}
 use native.Mathlib.Omega.{arith}
-use Rattle.chizuregwo.proofs.Lengths.{read-most}
-use Rattle.chizuregwo.proofs.AnswerLaws.{written-short}
+use Rattle.lent.proofs.Results.{written-short}
+use Rattle.pinblock.proofs.Laws.{read-most}
 use Rattle.chizuregwo.proofs.pins.czg_pin_read.Statement.{statement}
 use Rattle.chizuregwo.proofs.pins.czg_pin_read.Tie as tie
 

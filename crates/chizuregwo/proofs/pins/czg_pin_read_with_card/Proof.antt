@@ -1,8 +1,8 @@
 -- `chizuregwo::pins::czg_pin_read_with_card` meets its contract.
 use borrow.Author.Needs.{needs}
 use native.Mathlib.Omega.{arith}
-use Rattle.chizuregwo.proofs.Lengths.{read-with-card-most}
-use Rattle.chizuregwo.proofs.AnswerLaws.{written-short}
+use Rattle.lent.proofs.Results.{written-short}
+use Rattle.pinblock.proofs.Laws.{read-with-card-most}
 use Rattle.chizuregwo.proofs.pins.czg_pin_read_with_card.Statement.{statement}
 use Rattle.chizuregwo.proofs.pins.czg_pin_read_with_card.Tie as tie
 

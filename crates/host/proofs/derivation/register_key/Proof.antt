@@ -1,11 +1,11 @@
 -- `host::derivation::register_key` meets its contract: deriving from the key so far through the places that are left gives the register key.
 use borrow.Author.Needs.{needs}
 use mathlib.Core.Path.{_≡_, refl, sym, ap, _∙_}
-use mathlib.Core.Bool.{cond}
 use Prim.Native.Nat.{ℕ, zero, suc, _+_, _-_, _*_, _/_, _^_, _≤_, _<_}
 use native.Mathlib.Nat.{not-suc-le-zero}
 use native.Mathlib.Omega.{arith}
 use lib.Dec.{eqb}
+use Rattle.lent.specs.Choice.{pick}
 use Rattle.registers.specs.Counters.{bit}
 use Rattle.registers.specs.RegisterKey.{derive, registerKey}
 use Rattle.host.specs.Derivation.{oneWay}
@@ -15,7 +15,7 @@ use Rattle.host.proofs.derivation.register_key.Tie as tie
 module _ (serial counter : ℕ) where
   -- the key past place b
   abbrev past : ℕ → ℕ → ℕ
-  past key b = cond (eqb (bit counter b) 1) (oneWay key (serial + counter / 2 ^ b * 2 ^ b)) key
+  past key b = pick (eqb (bit counter b) 1) (oneWay key (serial + counter / 2 ^ b * 2 ^ b)) key
 
   -- one place of the counter
   turn : (key b : ℕ) → 0 < b → derive oneWay serial b key counter ≡ derive oneWay serial (b - 1) (past key (b - 1)) counter

@@ -52,7 +52,7 @@ returns-2 c =
     (c .refused-block2 .ensures)
 
 initial-word-requires : tie.Need-initial-word-requires
-initial-word-requires c κs = fits (c .before .before .before) .key-size
+initial-word-requires c κs = search needs
 
 cleared-tail-requires : tie.Need-cleared-tail-requires
 cleared-tail-requires c κs = search needs

@@ -23,7 +23,7 @@ returns c =
     rw (refused-both (a .derivation .now) (a .serial .now) _ (c .before .before .refusal .ensures) (c .before .if1 .taken)) (c .refused-block .ensures)
 
 initial-word-requires : tie.Need-initial-word-requires
-initial-word-requires c κs = fits c .key-size
+initial-word-requires c κs = search needs
 
 block-of-requires : tie.Need-block-of-requires
 block-of-requires c κs = search needs

@@ -1,7 +1,7 @@
 -- `digit_of` meets its contract.
 use borrow.Author.Needs.{needs}
 use borrow.Author.Tests.{lt-ltb, le-ltb}
-use Rattle.keyentry.specs.Hexadecimal.{digitOf}
+use Rattle.keyentry.specs.Hexadecimal.{hexadecimalDigit}
 use Rattle.keyentry.proofs.hexadecimal.digit_of.Statement.{statement}
 use Rattle.keyentry.proofs.hexadecimal.digit_of.Tie as tie
 
@@ -9,14 +9,14 @@ add-result : tie.Need-add-result
 add-result c = search needs
 
 returns : tie.Need-returns
-unfolding digitOf
+unfolding hexadecimalDigit
 returns c = simp (lt-ltb _ _ (c .if1 .taken))
 
 add-result-2 : tie.Need-add-result-2
 add-result-2 c = search needs
 
 returns-2 : tie.Need-returns-2
-unfolding digitOf
+unfolding hexadecimalDigit
 returns-2 c = simp (le-ltb _ _ (c .if1 .left))
 
 pub digit-of-spec : {M : Type 1} → statement M

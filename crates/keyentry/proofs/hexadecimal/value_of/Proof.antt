@@ -15,17 +15,17 @@ letter : (x : ℕ) → hexadecimal x ≡ true → digit x ≡ false → (65 ≤ 
 unfolding hexadecimal
 letter x e d = between-true 65 70 (capitalized x) (simp d at e)
 
-between-requires : tie.Need-between-requires
-between-requires c κs = search needs
+is-digit-requires : tie.Need-is-digit-requires
+is-digit-requires c κs = search needs
 
 sub-result : tie.Need-sub-result
 sub-result c =
-    omega (arith, between-true 48 57 (c .before .before .args .x) (sym (c .before .between .ensures) ∙ c .if1 .taken))
+    omega (arith, between-true 48 57 (c .before .before .args .x) (sym (c .before .is-digit .ensures) ∙ c .if1 .taken))
 
 returns : tie.Need-returns
 unfolding valueOf
 returns c =
-    let e = sym (c .before .between .ensures) ∙ c .if1 .taken in
+    let e = sym (c .before .is-digit .ensures) ∙ c .if1 .taken in
     (simp e, omega (arith, between-true 48 57 (c .before .before .args .x) e))
 
 capitalized-requires : tie.Need-capitalized-requires
@@ -34,16 +34,16 @@ capitalized-requires c κs = search needs
 sub-result-2 : tie.Need-sub-result-2
 sub-result-2 c =
     let b = c .before .before in
-    omega (arith, letter (b .before .args .x) (b .before .pre) (sym (b .between .ensures) ∙ c .before .if1 .left), c .capitalized .ensures)
+    omega (arith, letter (b .before .args .x) (b .before .pre) (sym (b .is-digit .ensures) ∙ c .before .if1 .left), c .capitalized .ensures)
 
 returns-2 : tie.Need-returns-2
 unfolding valueOf
 returns-2 c =
     let b = c .before .before in
-    let e = sym (b .between .ensures) ∙ c .before .if1 .left in
+    let e = sym (b .is-digit .ensures) ∙ c .before .if1 .left in
     (simp (e, c .capitalized .ensures), omega (arith, letter (b .before .args .x) (b .before .pre) e, c .capitalized .ensures))
 
 pub value-of-spec : {M : Type 1} → statement M
 value-of-spec =
     tie.close
-    (tie.spec between-requires sub-result returns capitalized-requires sub-result-2 returns-2)
+    (tie.spec is-digit-requires sub-result returns capitalized-requires sub-result-2 returns-2)

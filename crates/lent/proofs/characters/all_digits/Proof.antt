@@ -20,17 +20,17 @@ abbrev μ-loop : tie.MeasureT-loop
 loop-holds : tie.Need-loop-holds Inv-loop μ-loop
 loop-holds c = search needs
 
-shared-slice-read-between : tie.Need-shared-slice-read-between Inv-loop μ-loop
-shared-slice-read-between c = search needs
+shared-slice-read-is-digit : tie.Need-shared-slice-read-is-digit Inv-loop μ-loop
+shared-slice-read-is-digit c = search needs
 
-between-requires : tie.Need-between-requires Inv-loop μ-loop
-between-requires c κs = search needs
+is-digit-requires : tie.Need-is-digit-requires Inv-loop μ-loop
+is-digit-requires c κs = search needs
 
 returns : tie.Need-returns Inv-loop μ-loop
 returns c =
     let l = c .before .before .before .before .loop in
     all-fails digit (c .before .before .before .before .before .before .args .s .now) (l .i) (l .inv .1) (omega arith)
-    (sym (c .before .between .ensures) ∙ not-true _ (c .if1 .taken))
+    (sym (c .before .is-digit .ensures) ∙ not-true _ (c .if1 .taken))
 
 add-i : tie.Need-add-i Inv-loop μ-loop
 add-i c = search needs
@@ -43,7 +43,7 @@ loop-again c =
     let l = c .before .before .before .before .loop in (
       omega arith,
       all-passes digit (c .before .before .before .before .before .before .args .s .now) (l .i) (l .inv .1) (omega arith)
-          (sym (c .before .between .ensures) ∙ not-false _ (c .if1 .left)),
+          (sym (c .before .is-digit .ensures) ∙ not-false _ (c .if1 .left)),
     )
 
 returns-2 : tie.Need-returns-2 Inv-loop μ-loop
@@ -56,8 +56,8 @@ all-digits-spec =
     Inv-loop
     μ-loop
     loop-holds
-    shared-slice-read-between
-    between-requires
+    shared-slice-read-is-digit
+    is-digit-requires
     returns
     add-i
     loop-less

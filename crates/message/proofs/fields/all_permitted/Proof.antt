@@ -1,4 +1,4 @@
--- `all_permitted` meets its contract: the characters before place i are permitted.
+-- `all_permitted` meets its contract: the characters from place i on decide as all of them do.
 use borrow.Author.Needs.{needs}
 use borrow.Author.Tests.{not-true, not-false}
 use mathlib.Core.Path.{_≡_, sym, ap, _∙_}

@@ -23,8 +23,8 @@ returns-2 c =
       sym (c .before .between2 .ensures) ∙ c .if2 .taken,
     )
 
-between-requires-3 : tie.Need-between-requires-3
-between-requires-3 c κs = search needs
+is-digit-requires : tie.Need-is-digit-requires
+is-digit-requires c κs = search needs
 
 returns-3 : tie.Need-returns-3
 unfolding letterOrDigit
@@ -33,8 +33,8 @@ returns-3 c =
       sym (c .before .before .before .before .between .ensures) ∙ c .before .before .before .if1 .left,
       sym (c .before .before .between2 .ensures) ∙ c .before .if2 .left,
     )
-    (c .between3 .ensures)
+    (c .is-digit .ensures)
 
 pub letter-or-digit-spec : {M : Type 1} → statement M
 letter-or-digit-spec =
-    tie.close (tie.spec between-requires returns between-requires-2 returns-2 between-requires-3 returns-3)
+    tie.close (tie.spec between-requires returns between-requires-2 returns-2 is-digit-requires returns-3)

@@ -1,10 +1,7 @@
 -- `append_entry` meets its contract.
 use borrow.Author.Needs.{needs}
-use mathlib.Core.Path.{ap}
-use native.Mathlib.Omega.{arith}
-use lib.ListN.{length}
 use Rattle.message.specs.Text.{entered}
-use Rattle.message.proofs.Appending.{both-appended}
+use Rattle.lent.proofs.Appending.{both-appended}
 use Rattle.message.proofs.text.append_entry.Statement.{statement}
 use Rattle.message.proofs.text.append_entry.Tie as tie
 
@@ -12,8 +9,7 @@ enum-told : tie.Need-enum-told
 enum-told c = search needs
 
 append-requires : tie.Need-append-requires
-unfolding entered
-append-requires c κs = rw (c .before .enum-told .given .1) at (c .before .before .before .before .before .pre)
+append-requires c κs = search needs
 
 enum-told-2 : tie.Need-enum-told-2
 enum-told-2 c = search needs
@@ -25,19 +21,10 @@ slice-aggregate-append : tie.Need-slice-aggregate-append
 slice-aggregate-append c = search needs
 
 append-requires-2 : tie.Need-append-requires-2
-unfolding entered
-append-requires-2 c κs =
-    omega (arith, rw (c .before .before .before .enum-told2 .given .1) at (c .before .before .before .before .before .before .before .pre), ap length (c .before .before .two-digits .ensures))
+append-requires-2 c κs = search needs
 
 append-requires-3 : tie.Need-append-requires-3
-unfolding entered
-append-requires-3 c κs =
-    omega (
-      arith,
-      rw (c .before .before .before .before .before .before .before .enum-told2 .given .1) at (c .before .before .before .before .before .before .before .before .before .before .before .pre),
-      ap length (c .before .before .before .before .before .before .two-digits .ensures),
-      c .before .before .before .append2 .ensures .end,
-    )
+append-requires-3 c κs = search needs
 
 enum-known-entry : tie.Need-enum-known-entry
 enum-known-entry c = search needs
@@ -46,8 +33,7 @@ first-requires : tie.Need-first-requires
 first-requires c κs = search needs
 
 append-requires-4 : tie.Need-append-requires-4
-unfolding entered
-append-requires-4 c κs = rw (c .first .ensures) (rw (c .before .before .before .entry .given .1) at (c .before .before .before .before .before .before .before .pre))
+append-requires-4 c κs = search needs
 
 same-length : tie.Need-same-length
 same-length c = search needs
@@ -62,8 +48,11 @@ same-length-2 c = search needs
 returns-2 : tie.Need-returns-2
 unfolding entered
 returns-2 c =
-    rw (c .before .before .before .before .before .before .before .before .before .before .enum-told2 .given .1)
-    (both-appended (rw (c .before .before .before .before .before .before .before .before .before .two-digits .ensures) at (c .before .before .before .before .before .before .append2 .ensures)) (c .before .before .append3 .ensures))
+    let known = c .before .before .before .before .before .before .before .before .before .before in
+    let room = rw (known .enum-told2 .given .1) at (known .before .before .before .before .pre) in
+    let digits = c .before .before .before .before .before .before .before .before .before .two-digits .ensures in
+    rw (known .enum-told2 .given .1)
+    (both-appended room (rw digits at (c .before .before .before .before .before .before .append2 .ensures)) (c .before .before .append3 .ensures))
 
 same-length-3 : tie.Need-same-length-3
 same-length-3 c = search needs

@@ -2,7 +2,7 @@
 use borrow.Author.Needs.{needs}
 use native.Mathlib.Omega.{arith}
 use Rattle.message.specs.Gathered.{spacedField}
-use Rattle.message.proofs.Appending.{nothing, both-appended}
+use Rattle.lent.proofs.Appending.{appended-end, appended-length, nothing-appended, both-appended}
 use Rattle.message.proofs.text.append_field.Statement.{statement}
 use Rattle.message.proofs.text.append_field.Tie as tie
 
@@ -14,19 +14,21 @@ enum-told c = search needs
 
 returns : tie.Need-returns
 unfolding spacedField
-returns c = rw (c .enum-told .given .1) nothing
+returns c = rw (c .enum-told .given .1) nothing-appended
 
 slice-aggregate-append : tie.Need-slice-aggregate-append
 slice-aggregate-append c = search needs
 
 append-requires : tie.Need-append-requires
-unfolding spacedField
-append-requires c κs = omega (arith, rw (c .before .before .before .rule .given .1) at (c .before .before .before .before .before .before .before .pre))
+append-requires c κs = search needs
 
 append-entry-requires : tie.Need-append-entry-requires
 unfolding spacedField
 append-entry-requires c κs =
-    omega (arith, rw (c .before .before .before .before .before .before .before .rule .given .1) at (c .before .before .before .before .before .before .before .before .before .before .before .pre), c .before .before .before .append .ensures .end)
+    let known = c .before .before .before .before .before .before .before in
+    let room = rw (known .rule .given .1) at (known .before .before .before .before .pre) in
+    let written = c .before .before .before .append .ensures in
+    omega (arith, appended-end written (omega arith), appended-length written (omega arith))
 
 same-length : tie.Need-same-length
 same-length c = search needs
@@ -34,7 +36,10 @@ same-length c = search needs
 returns-2 : tie.Need-returns-2
 unfolding spacedField
 returns-2 c =
-    rw (c .before .before .before .before .before .before .before .before .before .before .rule .given .1) (both-appended (c .before .before .before .before .before .before .append .ensures) (c .before .before .append-entry .ensures))
+    let known = c .before .before .before .before .before .before .before .before .before .before in
+    let room = rw (known .rule .given .1) at (known .before .before .before .before .pre) in
+    rw (known .rule .given .1)
+    (both-appended room (c .before .before .before .before .before .before .append .ensures) (c .before .before .append-entry .ensures))
 
 pub append-field-spec : {M : Type 1} → statement M
 append-field-spec =

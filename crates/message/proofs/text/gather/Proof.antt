@@ -6,11 +6,14 @@ use mathlib.Core.List.{List}
 use Prim.Native.Nat.{ℕ, _+_, _-_, _<_, _≤_}
 use native.Mathlib.Omega.{arith}
 use lib.ListN.{length, take, drop, length-drop, drop-of-length-le}
-use lib.Seq.{take-all, drop-drop}
-use Rattle.lent.specs.Result.{number}
+use lib.Seq.{drop-drop}
+use Rattle.lent.specs.Appended.{Appended}
+use Rattle.lent.specs.Result.{number, answerOf}
+use Rattle.lent.proofs.Appending.{appended-end, appended-front}
+use Rattle.lent.proofs.Lists.{part-rest}
 use Rattle.message.specs.Fields.{rule}
-use Rattle.message.specs.Records.{bodySize, fieldNumber, bodyOf, judged, records, messageFields}
-use Rattle.message.specs.Gathered.{spacedField, gathered, Appended}
+use Rattle.message.specs.Records.{bodySize, fieldNumber, bodyOf, judged, records, messageFields, highestField}
+use Rattle.message.specs.Gathered.{spacedField, gathered}
 use Rattle.message.proofs.Judging.{Accepted, accepted, body-is}
 use Rattle.message.proofs.Walking.{behind, behind-nothing, behind-end, behind-refused, behind-next, refused-outcome}
 use Rattle.message.proofs.Room.{room, room-short, room-grows}
@@ -22,7 +25,7 @@ record Turn (message raw : List ℕ) (n at lowest highest : ℕ) : Type 0 where
   pub within : at ≤ length message
   pub count : n ≤ room lowest
   pub low : lowest ≤ 193
-  pub high : highest ≤ 192
+  pub high : highest ≤ highestField
   pub memory : length raw ≡ 167
   pub rest : behind (take n raw) (records 0 lowest highest (drop at message)) ≡ gathered message
 
@@ -90,7 +93,7 @@ abbrev rest : tie.In-loop Inv-loop μ-loop → List ℕ
 rest c = drop (c .before .loop .at) (whole c)
 
 lent-rest : (c : tie.In-loop Inv-loop μ-loop) → take (length (whole c) - c .before .loop .at) (rest c) ≡ rest c
-lent-rest c = take-all (length (whole c) - c .before .loop .at) (rest c) (rw length-drop (omega arith))
+lent-rest c = part-rest (c .before .loop .at) (whole c)
 
 rest-some : (c : tie.In-loop Inv-loop μ-loop) → 0 < length (rest c)
 rest-some c = rw length-drop (omega arith)
@@ -157,19 +160,25 @@ field-is c t e =
     let b = c .before .before .before in
     rw (e, c .before .rule-of .ensures, number-is b, body-is (rest (b .before .before .before .before .before)) (b .body-size .result) (size-is b))
 
-append-field-requires : tie.Need-append-field-requires Inv-loop μ-loop
-append-field-requires c κs =
+-- there is room for it
+field-fits : (c : tie.After-append-field-arg2 Inv-loop μ-loop) → let l = c .before .before .before .before .before .before .before .before .before .loop in
+    let s = rest (c .before .before .before .before .before .before .before .before) in
+    l .n + length (spacedField (rule (fieldNumber s)) (bodyOf s)) ≤ length (l .raw)
+field-fits c =
     let l = c .before .before .before .before .before .before .before .before .before .loop in
     let s = rest (c .before .before .before .before .before .before .before .before) in
     let a = next (c .before .before .before .before .before) in
-    rw (field-is c _ (lent-rest (c .before .before .before .before .before .before .before .before)))
-    (omega (
+    omega (
       arith,
       l .inv .count,
       l .inv .memory,
       room-grows (l .lowest) (fieldNumber s) (bodyOf s) (a .low) (a .form),
       room-short (fieldNumber s + 1) (omega (arith, a .high, l .inv .high)),
-    ))
+    )
+
+append-field-requires : tie.Need-append-field-requires Inv-loop μ-loop
+append-field-requires c κs =
+    rw (field-is c _ (lent-rest (c .before .before .before .before .before .before .before .before))) (field-fits c)
 
 add-at : tie.Need-add-at Inv-loop μ-loop
 add-at c = omega (arith, within (c .before .before .before .before .before .before))
@@ -189,18 +198,19 @@ loop-again c =
     let f = c .before .before .append-field in
     let appended : Appended (spacedField (rule (fieldNumber s)) (bodyOf s)) (l .raw) (f .last .0) (l .n) (f .result) =
     rw (field-is (c .before .before .before) _ (lent-rest (b .before .before .before .before .before))) at (f .ensures) in
+    let fits = field-fits (c .before .before .before) in
     let behind-it : drop (l .at + (4 + b .body-size .result)) (whole (b .before .before .before .before .before)) ≡ drop (4 + bodySize s) s =
     rw (size-is b) (sym (drop-drop (4 + bodySize s) (l .at) (whole (b .before .before .before .before .before)))) in
     record {
       within = within b;
       count =
           rw (number-is b)
-          (omega (arith, appended .end, l .inv .count, room-grows (l .lowest) (fieldNumber s) (bodyOf s) (a .low) (a .form)));
+          (omega (arith, appended-end appended fits, l .inv .count, room-grows (l .lowest) (fieldNumber s) (bodyOf s) (a .low) (a .form)));
       low = omega (arith, number-is b, a .high, l .inv .high);
       high = omega arith;
       memory = omega arith;
       rest =
-          rw (appended .front, behind-it, number-is b)
+          rw (appended-front appended fits, behind-it, number-is b)
           (sym (behind-next (take (l .n) (l .raw)) s (l .lowest) (l .highest) (rest-some (b .before .before .before .before .before)) a) ∙ l .inv .rest);
     }
 
@@ -208,6 +218,7 @@ same-length-2 : tie.Need-same-length-2 Inv-loop μ-loop
 same-length-2 c = search needs
 
 returns-4 : tie.Need-returns-4 Inv-loop μ-loop
+unfolding answerOf
 returns-4 c =
     let l = c .before .loop in
     let none = drop-of-length-le (c .before .before .before .before .before .before .args .message .now) {i = l .at} (c .loop-test .left) in

@@ -6,7 +6,7 @@ use Prim.Native.Nat.{_≤_}
 use native.Mathlib.Omega.{arith}
 use lib.ListN.{length, take}
 use lib.Seq.{length-take-le}
-use Rattle.lent.specs.Result.{done, refused}
+use Rattle.lent.specs.Result.{done, refused, answerOf}
 use Rattle.lent.proofs.Results.{refused-written}
 use Rattle.cleaning.proofs.Laws.{clean-done}
 use Rattle.message.specs.Gathered.{gathered}
@@ -24,6 +24,7 @@ refused-length-requires : tie.Need-refused-length-requires
 refused-length-requires c κs = search needs
 
 returns : tie.Need-returns
+unfolding answerOf
 returns c =
     let m = c .before .before .before .before .before .before .before .args .message .now in
     let g = c .before .before .before .gather in
@@ -43,6 +44,7 @@ same-length : tie.Need-same-length
 same-length c = search needs
 
 returns-2 : tie.Need-returns-2
+unfolding answerOf
 returns-2 c =
     let m = c .before .before .before .before .before .before .before .before .before .before .before .args .message .now in
     let g = c .before .before .before .before .before .before .before .gather in

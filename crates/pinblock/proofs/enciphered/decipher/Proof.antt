@@ -1,13 +1,14 @@
 -- `pinblock::enciphered::decipher` meets its contract.
 use borrow.Author.Needs.{needs}
-use Rattle.lent.proofs.Results.{refused-as, answered-done}
-use Rattle.pinblock.specs.Entries.{clearBlock, decipher}
-use Rattle.pinblock.proofs.Answers.{refused-length, clear-block-numbered}
+use Rattle.lent.proofs.Results.{refused-as, answered-done, refused-length}
+use Rattle.keyed.specs.Keyed.{decipherBlock}
+use Rattle.keyed.proofs.Laws.{decipher-block-numbered}
+use Rattle.pinblock.specs.Entries.{decipher}
 use Rattle.pinblock.proofs.enciphered.decipher.Statement.{statement}
 use Rattle.pinblock.proofs.enciphered.decipher.Tie as tie
 
-clear-block-requires : tie.Need-clear-block-requires
-clear-block-requires c κs = search needs
+decipher-block-requires : tie.Need-decipher-block-requires
+decipher-block-requires c κs = search needs
 
 refused-length-requires : tie.Need-refused-length-requires
 refused-length-requires c κs = search needs
@@ -16,7 +17,7 @@ returns : tie.Need-returns
 unfolding decipher
 returns c =
     let s = c .before .before .before .before .before .before .before in
-    refused-length _ (c .refused-length .ensures) (rw (refused-as (clearBlock (s .args .block .now) (s .args .key .now)) (c .before .before .before .clear-block .ensures .number) (c .before .if1 .taken)))
+    refused-length _ (c .refused-length .ensures) (rw (refused-as (decipherBlock (s .args .key .now) (s .args .block .now)) (c .before .before .before .decipher-block .ensures .number) (c .before .if1 .taken)))
 
 slice-aggregate-read : tie.Need-slice-aggregate-read
 slice-aggregate-read c = search needs
@@ -31,13 +32,13 @@ returns-2 : tie.Need-returns-2
 unfolding decipher
 returns-2 c =
     let e = c .before .before .before .before .before .before in
-    rw (answered-done 8 _ (clear-block-numbered _ _) (e .before .before .clear-block .ensures) (e .if1 .left)) (c .before .before .read .ensures)
+    rw (answered-done 8 _ (decipher-block-numbered _ _) (e .before .before .decipher-block .ensures) (e .if1 .left)) (c .before .before .read .ensures)
 
 pub decipher-spec : {M : Type 1} → statement M
 decipher-spec =
     tie.close
     (tie.spec
-    clear-block-requires
+    decipher-block-requires
     refused-length-requires
     returns
     slice-aggregate-read

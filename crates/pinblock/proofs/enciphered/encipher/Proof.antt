@@ -2,7 +2,7 @@
 use borrow.Author.Needs.{needs}
 use Rattle.lent.proofs.Results.{answer-of}
 use Rattle.pinblock.specs.Entries.{encipher}
-use Rattle.pinblock.proofs.Answers.{make-numbered}
+use Rattle.pinblock.proofs.Laws.{make-numbered}
 use Rattle.pinblock.proofs.enciphered.encipher.Statement.{statement}
 use Rattle.pinblock.proofs.enciphered.encipher.Tie as tie
 

@@ -2,7 +2,7 @@
 use borrow.Author.Needs.{needs}
 use Rattle.lent.proofs.Results.{answer-of}
 use Rattle.pinblock.specs.Entries.{encipherWithCard}
-use Rattle.pinblock.proofs.Answers.{make-with-card-numbered}
+use Rattle.pinblock.proofs.Laws.{make-with-card-numbered}
 use Rattle.pinblock.proofs.enciphered.encipher_with_card.Statement.{statement}
 use Rattle.pinblock.proofs.enciphered.encipher_with_card.Tie as tie
 

@@ -4,7 +4,7 @@ use borrow.Author.Tests.{eq-eqb, ne-eqb, not-true, not-false}
 use mathlib.Core.Path.{_≡_, sym, _∙_}
 use mathlib.Core.Bool.{true}
 use Rattle.lent.specs.Result.{answerOf}
-use Rattle.pinblock.specs.Enciphering.{keySize}
+use Rattle.keyed.specs.Keyed.{keySize}
 use Rattle.pinblock.specs.Entries.{underKey}
 use Rattle.pinblock.proofs.enciphered.under_key.Statement.{statement}
 use Rattle.pinblock.proofs.enciphered.under_key.Tie as tie
@@ -37,7 +37,7 @@ word-of-requires : tie.Need-word-of-requires
 word-of-requires c κs = search needs
 
 encipher-word-requires : tie.Need-encipher-word-requires
-encipher-word-requires c κs = permitted (c .before .before .before .before .before)
+encipher-word-requires c κs = search needs
 
 block-of-requires : tie.Need-block-of-requires
 block-of-requires c κs = search needs

@@ -1,8 +1,8 @@
 -- `pinblock::reading::read` meets its contract.
 use borrow.Author.Needs.{needs}
 use borrow.Author.Tests.{eq-eqb, ne-eqb}
+use Rattle.lent.proofs.Results.{refused-length}
 use Rattle.pinblock.specs.Entries.{read}
-use Rattle.pinblock.proofs.Answers.{refused-length}
 use Rattle.pinblock.proofs.reading.read.Statement.{statement}
 use Rattle.pinblock.proofs.reading.read.Tie as tie
 

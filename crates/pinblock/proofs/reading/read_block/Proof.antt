@@ -7,9 +7,9 @@ use Prim.Native.Nat.{_<_, _≤_, _^_}
 use native.Mathlib.Omega.{arith}
 use lib.Seq.{length-take-le}
 use Rattle.lent.specs.Words.{toBase}
+use Rattle.lent.proofs.Results.{refused-length}
 use Rattle.pinblock.specs.Private.{wellFormed}
 use Rattle.pinblock.specs.Reading.{candidate}
-use Rattle.pinblock.proofs.Answers.{refused-length}
 use Rattle.pinblock.proofs.Readings.{formed-read, not-formed, formed-length}
 use Rattle.pinblock.proofs.reading.read_block.Statement.{statement}
 use Rattle.pinblock.proofs.reading.read_block.Tie as tie

@@ -6,8 +6,8 @@ use mathlib.Core.Bool.{true}
 use Rattle.lent.specs.CardNumbers.{cardSize}
 use Rattle.lent.specs.Choice.{all}
 use Rattle.lent.specs.Characters.{digit}
+use Rattle.lent.proofs.Results.{refused-length}
 use Rattle.pinblock.specs.Entries.{readWithCard}
-use Rattle.pinblock.proofs.Answers.{refused-length}
 use Rattle.pinblock.proofs.reading.read_with_card.Statement.{statement}
 use Rattle.pinblock.proofs.reading.read_with_card.Tie as tie
 

@@ -6,7 +6,7 @@ use Prim.Native.Nat.{_≤_, _-_}
 use native.Mathlib.Omega.{arith}
 use lib.ListN.{length, take, drop, length-set}
 use Rattle.lent.specs.Words.{toBase}
-use Rattle.pinblock.specs.Reading.{digitOf}
+use Rattle.lent.specs.Characters.{digitOf}
 use Rattle.pinblock.proofs.HalfBytes.{text-written}
 use Rattle.pinblock.proofs.reading.text_of.Statement.{statement}
 use Rattle.pinblock.proofs.reading.text_of.Tie as tie

@@ -5,7 +5,7 @@ use lib.Dec.{lit≤}
 use Rattle.registers.specs.Machine.{loaded}
 use Rattle.host.proofs.Laws.{tail-clear}
 use Rattle.terminal.specs.Record.{loadedRecord}
-use Rattle.terminal.proofs.Records.{key-refused, serial-refused, load-done}
+use Rattle.terminal.proofs.Loadings.{key-refused, serial-refused, load-done}
 use Rattle.terminal.proofs.loading.load.Statement.{statement}
 use Rattle.terminal.proofs.loading.load.Tie as tie
 

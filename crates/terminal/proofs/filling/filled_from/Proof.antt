@@ -1,0 +1,93 @@
+-- `terminal::filling::filled_from` meets its contract: the registers passed are filled.
+use borrow.Author.Needs.{needs}
+use mathlib.Core.Path.{_≡_, sym, ap, _∙_}
+use Prim.Native.Nat.{ℕ, _+_, _-_, _*_, _%_, _^_, _≤_, _<_}
+use native.Mathlib.Omega.{arith}
+use lib.Pow.{pow-lt}
+use lib.Dec.{lit≤}
+use Rattle.registers.specs.Machine.{fill, stepped}
+use Rattle.registers.proofs.Laws.{one-shl, fill-none, fill-turn}
+use Rattle.host.specs.Derivation.{oneWay}
+use Rattle.terminal.specs.Record.{dukpt}
+use Rattle.terminal.proofs.filling.filled_from.Statement.{statement}
+use Rattle.terminal.proofs.filling.filled_from.Tie as tie
+
+-- the bit of a register below n, as the code shifts it, and the counter with it
+shifted : (b n c : ℕ) → b < n → n ≤ 21 → c + 2 ^ n ≤ 2 ^ 21 → (1 * 2 ^ b % 2 ^ 32 ≡ 2 ^ b) × (c + 2 ^ b < 2 ^ 21)
+shifted b n c h l r = (one-shl 32 b (lit≤ tt) (omega arith) .0, omega (arith, pow-lt {i = b} {j = n} h))
+
+abbrev Inv-loop : tie.InvT-loop
+Inv-loop n key serial c out₀ b₀ out b = (b ≤ n) × (out ≡ fill b (stepped dukpt key serial c) out₀)
+
+abbrev μ-loop : tie.MeasureT-loop
+μ-loop n key serial c out₀ b₀ out b = n - b
+
+loop-holds : tie.Need-loop-holds Inv-loop μ-loop
+loop-holds c = (search needs, sym (fill-none _ _))
+
+cast-wide : tie.Need-cast-wide Inv-loop μ-loop
+cast-wide c = search needs
+
+shl-wide : tie.Need-shl-wide Inv-loop μ-loop
+shl-wide c = search needs
+
+add-wide : tie.Need-add-wide Inv-loop μ-loop
+add-wide c =
+    let k = c .before .before in
+    omega (arith, shifted (c .before .loop .b) (k .args .n) (k .args .c) (omega arith) (k .pre .0) (k .pre .1 .0))
+
+wide-requires : tie.Need-wide-requires Inv-loop μ-loop
+wide-requires c κs = search needs
+
+add-one-way : tie.Need-add-one-way Inv-loop μ-loop
+add-one-way c =
+    let k = c .before .before .before in
+    omega (arith, shifted (c .before .before .loop .b) (k .args .n) (k .args .c) (omega arith) (k .pre .0) (k .pre .1 .0), c .wide .ensures)
+
+one-way-requires : tie.Need-one-way-requires Inv-loop μ-loop
+one-way-requires c κs = search needs
+
+mul-out : tie.Need-mul-out Inv-loop μ-loop
+mul-out c = search needs
+
+array-write-out : tie.Need-array-write-out Inv-loop μ-loop
+array-write-out c = search needs
+
+add-b : tie.Need-add-b Inv-loop μ-loop
+add-b c = search needs
+
+loop-less : tie.Need-loop-less Inv-loop μ-loop
+loop-less c = search needs
+
+loop-again : tie.Need-loop-again Inv-loop μ-loop
+loop-again c =
+    let k = c .before .before .before .before in
+    let a = k .args in
+    let l = c .before .before .before .loop in
+    let bit = shifted (l .b) (a .n) (a .c) (omega arith) (k .pre .0) (k .pre .1 .0) .0 in
+    let e = c .before .wide .ensures ∙ ap (λ (x : ℕ). a .c + x) bit in
+    let key = c .one-way .ensures ∙ ap (λ (x : ℕ). oneWay (a .key) (a .serial + x)) e in
+    (search needs, fill-turn (l .b) (stepped dukpt (a .key) (a .serial) (a .c)) _ _ _ (l .inv .1) key)
+
+returns : tie.Need-returns Inv-loop μ-loop
+returns c = let e : c .before .loop .b ≡ c .before .before .args .n = omega arith in rw (← e) (c .before .loop .inv .1)
+
+pub filled-from-spec : {M : Type 1} → statement M
+filled-from-spec =
+    tie.close
+    (tie.spec
+    Inv-loop
+    μ-loop
+    loop-holds
+    cast-wide
+    shl-wide
+    add-wide
+    wide-requires
+    add-one-way
+    one-way-requires
+    mul-out
+    array-write-out
+    add-b
+    loop-less
+    loop-again
+    returns)
