@@ -29,21 +29,12 @@ lib:
 	cmp -s target/staticlib/libchizuregwo.a $(archive) || cp target/staticlib/libchizuregwo.a $(archive)
 	cmp -s include/chizuregwo.h $(header) || cp include/chizuregwo.h $(header)
 
-$(archive):
-	$(MAKE) lib
-
-$(header): include/chizuregwo.h
-	mkdir -p build
-	cp include/chizuregwo.h $@
-
-# The archive is position independent, gives out the entries alone and needs memcpy and memset; no other symbol may be left over.
-shared: $(shared)
-
-$(shared): $(archive)
+# The archive is position independent, gives out the entries alone and needs memcpy and memset (tests/library).
+shared: lib
 	$(CC) $(LDFLAGS) -shared -Wl,-soname,libchizuregwo.so -Wl,--no-undefined -Wl,-z,noexecstack,-z,relro,-z,now \
-	    -o $@ -Wl,--whole-archive $(archive) -Wl,--no-whole-archive
+	    -o $(shared) -Wl,--whole-archive $(archive) -Wl,--no-whole-archive
 
-install: $(archive) $(header)
+install: lib
 	$(INSTALL) -d '$(DESTDIR)$(PREFIX)/include' '$(DESTDIR)$(PREFIX)/lib/pkgconfig'
 	$(INSTALL) -m 644 $(header) '$(DESTDIR)$(PREFIX)/include/chizuregwo.h'
 	$(INSTALL) -m 644 $(archive) '$(DESTDIR)$(PREFIX)/lib/libchizuregwo.a'

@@ -46,7 +46,7 @@ static void print_hex(const char *what, const uint8_t *bytes, size_t size)
 
 int main(int argc, char **argv)
 {
-    static const uint8_t pin[] = "1234", card[] = "4219876543210987";
+    static const uint8_t pin[] = "1234", card[] = "4219876543210987", pin_key[] = "a key for PINs !";
     /* One byte more than a key and the longest message, so that a longer message is seen as one. */
     static uint8_t input[CZG_KEY_SIZE + CZG_MOST_MESSAGE + 1];
     uint8_t text[CZG_MOST_MESSAGE_TEXT], mac[CZG_BLOCK_SIZE], block[CZG_BLOCK_SIZE];
@@ -72,7 +72,7 @@ int main(int argc, char **argv)
     print_hex("mac", mac, sizeof mac);
 
     answer = czg_pin_encipher_with_card(pin, strlen((const char *)pin), card, strlen((const char *)card),
-                                        input, key_size, block, sizeof block);
+                                        pin_key, CZG_DOUBLE_KEY_SIZE, block, sizeof block);
     if (!done("pin block", answer))
         return 1;
     print_hex("pin block", block, answer.length);

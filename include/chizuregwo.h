@@ -4,9 +4,9 @@
  * DES and two-key triple DES, key entry, the MAC of a text and of an online message, PIN blocks, chip-card keys and
  * cryptograms, and DUKPT on the host and in the terminal. C99 and C++. Link with libchizuregwo.a.
  *
- * Every entry has one shape: bytes lent to be read (a pointer and a size), bytes lent to be written (a pointer and a
- * size), and an answer by value. No entry keeps a pointer, allocates, or holds any state between calls, so entries may
- * be called from several threads at once.
+ * Every entry has one shape: what it reads (bytes lent as a pointer and a size; a number in four entries), what it
+ * writes (bytes lent as a pointer and a size), and an answer by value. No entry keeps a pointer, allocates, or holds any
+ * state between calls, so entries may be called from several threads at once.
  *
  * Done:    number is CZG_DONE and length says how many bytes were written, from the start of the buffer. The buffer's
  *          bytes after these are left as they were.
@@ -143,7 +143,7 @@ czg_answer czg_text_mac(const uint8_t *key, size_t key_size, const uint8_t *text
 czg_answer czg_message_mac(const uint8_t *key, size_t key_size, const uint8_t *message, size_t message_size,
                            uint8_t *out, size_t out_size);
 
-/* ---- PIN blocks. A PIN is 4 to 12 text digits, a card number 13 to 19; a card number's last digit has no effect. ---- */
+/* ---- PIN blocks. A PIN is 4 to 12 text digits, a card number 13 to 19; a card number's last digit has no effect on a block. ---- */
 
 /* Clear PIN block without card number: half-bytes 0, length, the digits, then F. Writes 8 bytes. Refusals: 6, 7, 13. */
 czg_answer czg_pin_make(const uint8_t *pin, size_t pin_size, uint8_t *out, size_t out_size);
@@ -256,7 +256,8 @@ czg_answer czg_terminal_load(const uint8_t *initial_key, size_t initial_key_size
 
 /*
  * The terminal's next key. The record has exactly 187 bytes and is changed in place; the key buffer gets 8 bytes and the
- * serial buffer 10: the serial number with the counter of that key in it, for which czg_host_key gives the same key. A
+ * serial buffer 10: the serial number with the counter of that key in it. For that serial number czg_host_key gives the
+ * same key, if the terminal was loaded with the initial key that czg_initial_key gives under the same derivation key. A
  * terminal gives 1,048,575 keys and is then exhausted. On done, length is 8. On a refusal the record, the key buffer and
  * the serial buffer are left as they were.
  * Refusals: 6 (record), 11, 12, 13 (key buffer shorter than 8, serial buffer shorter than 10).

@@ -1,4 +1,4 @@
-/* Calls every entry once through the header, as C declares it, on a published or marked case, and once refused. */
+/* Calls every entry once through the header, as C declares it, on a published or marked case, and makes each kind of refusal. */
 #include <stdio.h>
 #include <string.h>
 

@@ -6,10 +6,10 @@ use std::fmt;
 /// Size of a terminal's record in bytes.
 pub const RECORD_SIZE: usize = 187;
 
-/// Where the parts of a record stand.
+// Where the parts of a record stand.
+const SERIAL_NUMBER: usize = 172;
 const COUNTER: usize = 182;
 const EXHAUSTED: usize = 186;
-const SERIAL_NUMBER: usize = 172;
 
 /// A serial number: 10 bytes, whose last 21 bits are the counter.
 pub type SerialNumber = [u8; 10];
@@ -19,7 +19,8 @@ pub type SerialNumber = [u8; 10];
 pub struct NextKey {
     /// The key.
     pub key: Block,
-    /// The serial number with the counter of the key in it, for which [`host_key`](crate::host_key) gives the same key.
+    /// The serial number with the counter of the key in it. For it [`host_key`](crate::host_key) gives the same key, if the
+    /// terminal was loaded with the [`initial_key`](crate::initial_key) of the same derivation key.
     pub serial_number: SerialNumber,
 }
 

@@ -41,16 +41,19 @@ fn exhausted(serial: [u8; 10]) -> Record {
     }
 }
 
+/// The last permitted counter.
+const LAST_COUNTER: u32 = 0x1F_F800;
+
 /// A permitted counter, often one with ten one bits or near the end.
 fn permitted(random: &mut Random) -> u32 {
     let some = match random.below(8) {
         0 => random.one_of(&[
-            1, 0x3FF, 0x400, 0x7FE, 0x800, 0x1F_F000, 0x1F_F800, 0x10_0000,
+            1, 0x3FF, 0x400, 0x7FE, 0x800, 0x1F_F000, LAST_COUNTER, 0x10_0000,
         ]),
-        1 => 0x1F_F800 >> random.below(12),
+        1 => LAST_COUNTER >> random.below(12),
         _ => counter(random),
     };
-    (some..)
+    (some.min(LAST_COUNTER)..)
         .find(|counter| counter.count_ones() <= 10)
         .expect("a permitted counter")
 }
