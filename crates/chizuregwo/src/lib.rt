@@ -1,9 +1,9 @@
 // The C library: each entry takes lent bytes, writes its value into lent bytes, and answers a number and the length written.
-mod answers;
-mod cards;
-mod ciphers;
-mod hosts;
-mod messages;
-mod pins;
+pub mod answers;
+pub mod cards;
+pub mod ciphers;
+pub mod hosts;
+pub mod messages;
+pub mod pins;
 mod record;
-mod terminals;
+pub mod terminals;
