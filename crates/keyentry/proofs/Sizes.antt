@@ -3,15 +3,16 @@ use borrow.Author.Tests.{eqb-true}
 use mathlib.Core.Path.{_≡_}
 use mathlib.Core.Bool.{true, false}
 use mathlib.Core.List.{List}
-use Prim.Native.Nat.{ℕ, _≤_}
+use Prim.Native.Nat.{ℕ, _%_, _≤_}
 use native.Mathlib.Omega.{arith}
 use lib.Dec.{eqb}
+use lib.ListN.{length}
 use Rattle.lent.specs.Choice.{all}
 use Rattle.lent.specs.Numbers.{size, character}
 use Rattle.lent.specs.Result.{done, refused, number}
 use Rattle.lent.proofs.Laws.{cases, never}
 use Rattle.keyentry.specs.Hexadecimal.{hexadecimal}
-use Rattle.keyentry.specs.KeyEntry.{keyOf, keySize, fullText, keyEntry}
+use Rattle.keyentry.specs.KeyEntry.{keyOf, textBytes, keySize, fullText, keyEntry}
 use Rattle.keyentry.specs.declared.units.Bytes.{Bytes}
 
 -- a key has at most 16 bytes
@@ -45,3 +46,17 @@ module _ (text : List ℕ) (wanted : Bytes) where
       (λ f. cases (all hexadecimal text) (λ h. (s, f, h)) (λ h. never (cc (character-refused s f h))))
       (λ f. never (cc (text-refused s f))))
       (λ s. never (cc (size-refused s)))
+
+-- the bytes of a text of any size, by the same tests
+module _ (text : List ℕ) where
+  pub odd-refused : eqb (length text % 2) 0 ≡ false → textBytes text ≡ refused size
+  unfolding textBytes
+  odd-refused o = simp o
+
+  pub not-hexadecimal : eqb (length text % 2) 0 ≡ true → all hexadecimal text ≡ false → textBytes text ≡ refused character
+  unfolding textBytes
+  not-hexadecimal o h = simp (o, h)
+
+  pub decoded : eqb (length text % 2) 0 ≡ true → all hexadecimal text ≡ true → textBytes text ≡ done (keyOf text)
+  unfolding textBytes
+  decoded o h = simp (o, h)

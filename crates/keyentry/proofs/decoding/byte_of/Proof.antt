@@ -6,8 +6,8 @@ use native.Mathlib.Omega.{arith}
 use Rattle.lent.proofs.Laws.{all-at}
 use Rattle.keyentry.specs.Hexadecimal.{hexadecimal}
 use Rattle.keyentry.proofs.Doublings.{told, not-too-large}
-use Rattle.keyentry.proofs.entry.byte_of.Statement.{statement}
-use Rattle.keyentry.proofs.entry.byte_of.Tie as tie
+use Rattle.keyentry.proofs.decoding.byte_of.Statement.{statement}
+use Rattle.keyentry.proofs.decoding.byte_of.Tie as tie
 
 -- the place of the byte's first digit
 first : (c : tie.After-known-told) → c .before .first .given .0 .0 .0 ≡ 2 * c .before .before .before .before .before .args .place .0

@@ -1,0 +1,37 @@
+-- `lend_bytes` meets its contract.
+use borrow.Author.Needs.{needs}
+use borrow.Author.Tests.{le-leb, lt-leb}
+use mathlib.Core.Path.{sym}
+use native.Mathlib.Omega.{arith}
+use lib.ListN.{length}
+use Rattle.keyentry.specs.KeyEntry.{keyOf}
+use Rattle.keyentry.proofs.Texts.{key-length}
+use Rattle.keyentry.proofs.decoding.lend_bytes.Statement.{statement}
+use Rattle.keyentry.proofs.decoding.lend_bytes.Tie as tie
+
+refused-length-requires : tie.Need-refused-length-requires
+refused-length-requires c κs = search needs
+
+returns : tie.Need-returns
+returns c =
+    let s = c .before .before .before .before in
+    let n = key-length (s .args .text .now) (s .args .size .0) (s .pre .0) in
+    let h = lt-leb (length (keyOf (s .args .text .now))) (length (s .args .out .now)) (omega (arith, n)) in
+    record { number = simp h (cc); value = simp h (cc); memory = simp h }
+
+put-bytes-requires : tie.Need-put-bytes-requires
+put-bytes-requires c κs = search needs
+
+same-length : tie.Need-same-length
+same-length c = search needs
+
+returns-2 : tie.Need-returns-2
+returns-2 c =
+    let s = c .before .before .before .before .before .before .before in
+    let n = key-length (s .args .text .now) (s .args .size .0) (s .pre .0) in
+    let h = le-leb (length (keyOf (s .args .text .now))) (length (s .args .out .now)) (omega (arith, n)) in
+    record { number = simp h; value = simp h (sym n); memory = simp h (c .before .before .put-bytes .ensures) }
+
+pub lend-bytes-spec : {M : Type 1} → statement M
+lend-bytes-spec =
+    tie.close (tie.spec refused-length-requires returns put-bytes-requires same-length returns-2)

@@ -1,0 +1,67 @@
+-- `text_bytes` meets its contract.
+use borrow.Author.Needs.{needs}
+use borrow.Author.Tests.{eq-eqb, ne-eqb, not-true, not-false}
+use mathlib.Core.Path.{_≡_, sym, _∙_}
+use mathlib.Core.Bool.{true}
+use Prim.Native.Nat.{_%_}
+use native.Mathlib.Omega.{arith}
+use lib.Dec.{eqb}
+use lib.ListN.{length}
+use Rattle.lent.specs.Choice.{all}
+use Rattle.lent.proofs.Results.{refused-length}
+use Rattle.keyentry.specs.Hexadecimal.{hexadecimal}
+use Rattle.keyentry.proofs.Sizes.{odd-refused, not-hexadecimal, decoded}
+use Rattle.keyentry.proofs.decoding.text_bytes.Statement.{statement}
+use Rattle.keyentry.proofs.decoding.text_bytes.Tie as tie
+
+refused-length-requires : tie.Need-refused-length-requires
+refused-length-requires c κs = search needs
+
+returns : tie.Need-returns
+returns c =
+    refused-length (c .refused-length .result) (c .refused-length .ensures)
+    (odd-refused (c .before .before .before .before .args .text .now) (ne-eqb _ _ (c .before .if1 .taken)))
+
+all-hexadecimal-requires : tie.Need-all-hexadecimal-requires
+all-hexadecimal-requires c κs = search needs
+
+refused-length-requires-2 : tie.Need-refused-length-requires-2
+refused-length-requires-2 c κs = search needs
+
+-- the text has two digits for each byte
+even : (c : tie.Else1) → eqb (length (c .before .before .before .args .text .now) % 2) 0 ≡ true
+even c = eq-eqb _ _ (c .if1 .left)
+
+returns-2 : tie.Need-returns-2
+returns-2 c =
+    let h = c .before .before in
+    refused-length (c .refused-length2 .result) (c .refused-length2 .ensures)
+    (not-hexadecimal _ (even (h .before)) (sym (h .all-hexadecimal .ensures) ∙ not-true _ (c .before .if2 .taken)))
+
+-- all of its characters are hexadecimal
+digits : (c : tie.Else2) → all hexadecimal (c .before .before .before .before .before .args .text .now) ≡ true
+digits c = sym (c .before .all-hexadecimal .ensures) ∙ not-false _ (c .if2 .left)
+
+lend-bytes-requires : tie.Need-lend-bytes-requires
+lend-bytes-requires c κs = (omega (arith, c .before .before .before .if1 .left), digits (c .before))
+
+same-length : tie.Need-same-length
+same-length c = search needs
+
+returns-3 : tie.Need-returns-3
+returns-3 c =
+    let l = c .before .before in
+    rw (decoded (l .before .before .before .before .before .before .before .args .text .now) (even (l .before .before .before .before)) (digits (l .before .before))) (l .lend-bytes .ensures)
+
+pub text-bytes-spec : {M : Type 1} → statement M
+text-bytes-spec =
+    tie.close
+    (tie.spec
+    refused-length-requires
+    returns
+    all-hexadecimal-requires
+    refused-length-requires-2
+    returns-2
+    lend-bytes-requires
+    same-length
+    returns-3)
