@@ -1,32 +1,31 @@
-//! Which entries of the selection functions the `s-boxes` cases read together.
+//! Which entries of the selection functions the `encrypt/s-boxes` requests read
+//! together.
 
 use crate::des::{entries_read, Entry};
-use crate::lines::{is_passed_through, sized, Case};
+use crate::lines::{requests, Request};
 use std::collections::BTreeSet;
 use std::io::BufRead;
 
-/// Adds the entries that a line's encryption reads, if it is an `s-boxes` case.
-fn add(line: &str, entries: &mut BTreeSet<Entry>) -> Result<(), String> {
-    let case = Case::read(line)?;
-    if case.operation != "des-encrypt" || !case.case.starts_with("s-boxes") {
+/// Adds the entries that a request reads, if its label starts with `s-boxes`.
+fn add(line: &[u8], entries: &mut BTreeSet<Entry>) -> Result<(), String> {
+    let mut request = Request::read(line)?;
+    if request.name != "encrypt" || !request.label.starts_with(b"s-boxes") {
         return Ok(());
     }
-    let [key, block] = case.inputs[..] else {
-        return Err("des-encrypt takes a key and a block".to_string());
+    let (key, block) = (request.inputs.bytes()?, request.inputs.bytes()?);
+    request.inputs.end()?;
+    let (Ok(key), Ok(block)) = (key.try_into(), block.try_into()) else {
+        return Err("an s-boxes request takes a key and a block of 8 bytes".to_string());
     };
-    entries.extend(entries_read(&sized(key)?, &sized(block)?));
+    entries.extend(entries_read(&key, &block));
     Ok(())
 }
 
-/// Number of entries that the input's `s-boxes` cases read.
+/// Number of entries that the `s-boxes` requests of the input read.
 pub fn run(input: impl BufRead) -> Result<usize, String> {
     let mut entries = BTreeSet::new();
-    for (i, line) in input.lines().enumerate() {
-        let at = |error| format!("line {}: {error}", i + 1);
-        let line = line.map_err(|error| at(error.to_string()))?;
-        if !is_passed_through(&line) {
-            add(&line, &mut entries).map_err(at)?;
-        }
+    for (number, line) in requests(input)? {
+        add(&line, &mut entries).map_err(|error| format!("line {number}: {error}"))?;
     }
     Ok(entries.len())
 }

@@ -14,6 +14,7 @@ pub mod cleaning;
 pub mod coverage;
 pub mod des;
 pub mod dukpt;
+pub mod entries;
 pub mod key_entry;
 pub mod lines;
 pub mod mac;

@@ -1,94 +1,209 @@
-//! Lines of cases: fields separated by one space. The first is
-//! `OPERATION/CASE`, then come the inputs, and the last is the claimed result.
+//! Lines of requests and lines of answers, as the program `czg` reads and
+//! writes them.
+//!
+//! A request is `NAME[@ROOM][/LABEL] INPUT INPUT ..` with single spaces between.
+//! An answer is `done` and the values, or `refused` and the number.
 
-/// A line that carries no case: blank, or a comment.
-pub fn is_passed_through(line: &str) -> bool {
-    line.trim().is_empty() || line.starts_with('#')
+use std::io::BufRead;
+
+/// The largest room, and the one that is lent where a request names none.
+const MOST_ROOM: usize = 1024;
+
+/// The room that is lent.
+#[derive(Clone, Copy, Debug, PartialEq, Eq)]
+pub struct Rooms {
+    /// For the result; for the key where a terminal's next key is asked for.
+    pub result: usize,
+    /// For the serial number where a terminal's next key is asked for.
+    pub serial: usize,
 }
 
-/// The case of one line, without the result that it claims.
+/// A request.
 #[derive(Clone, Debug, PartialEq, Eq)]
-pub struct Case<'a> {
+pub struct Request<'a> {
     /// What is computed.
-    pub operation: &'a str,
-    /// Name of the case.
-    pub case: &'a str,
-    /// The fields of inputs, in their order.
-    pub inputs: Vec<&'a str>,
-    /// All of the line before the claimed result, with the last space.
-    pub asked: &'a str,
+    pub name: &'a str,
+    /// The room that is lent.
+    pub rooms: Rooms,
+    /// Name of the case; it has no effect.
+    pub label: &'a [u8],
+    /// The inputs, none of them read yet.
+    pub inputs: Inputs<'a>,
 }
 
-impl<'a> Case<'a> {
-    /// The case of a line.
-    pub fn read(line: &'a str) -> Result<Self, String> {
-        let end = line.rfind(' ').ok_or("fewer than two fields")?;
-        let mut fields = line[..end].split(' ');
-        let name = fields.next().unwrap_or_default();
-        let (operation, case) = name.split_once('/').ok_or("no OPERATION/CASE")?;
-        let inputs: Vec<&str> = fields.collect();
-        if case.is_empty() || inputs.contains(&"") || line.ends_with(' ') {
-            return Err("an empty field".to_string());
-        }
-        let asked = &line[..end + 1];
-        Ok(Case {
-            operation,
-            case,
-            inputs,
-            asked,
+/// The inputs that are not read yet: what stands after the last space.
+#[derive(Clone, Debug, PartialEq, Eq)]
+pub struct Inputs<'a>(Option<&'a [u8]>);
+
+/// What stands before the first `mark` and after it, if there is one.
+fn split(bytes: &[u8], mark: u8) -> (&[u8], Option<&[u8]>) {
+    match bytes.iter().position(|byte| *byte == mark) {
+        Some(place) => (&bytes[..place], Some(&bytes[place + 1..])),
+        None => (bytes, None),
+    }
+}
+
+/// A decimal number.
+fn decimal<T: std::str::FromStr>(digits: &[u8]) -> Result<T, String> {
+    let shown = String::from_utf8_lossy(digits);
+    let read = shown.parse().ok();
+    read.filter(|_| digits.iter().all(u8::is_ascii_digit))
+        .ok_or(format!("`{shown}` is not a decimal number in range"))
+}
+
+/// A room of at most 1,024 bytes; that much where none is named.
+fn room(digits: Option<&[u8]>) -> Result<usize, String> {
+    let room = digits.map_or(Ok(MOST_ROOM), decimal)?;
+    if room > MOST_ROOM {
+        return Err(format!("a room of {room} bytes"));
+    }
+    Ok(room)
+}
+
+/// The rooms that stand after `@`: a second one for a terminal's next key alone.
+fn rooms(name: &[u8], named: Option<&[u8]>) -> Result<Rooms, String> {
+    let (result, serial) = match named.map(|named| split(named, b',')) {
+        Some((result, serial)) => (Some(result), serial),
+        None => (None, None),
+    };
+    if serial.is_some() && name != b"terminal-next-key" {
+        return Err("two rooms".to_string());
+    }
+    Ok(Rooms {
+        result: room(result)?,
+        serial: room(serial)?,
+    })
+}
+
+impl<'a> Request<'a> {
+    /// The request of a line.
+    pub fn read(line: &'a [u8]) -> Result<Self, String> {
+        let (head, inputs) = split(line, b' ');
+        let (asked, label) = split(head, b'/');
+        let (name, named) = split(asked, b'@');
+        Ok(Request {
+            name: std::str::from_utf8(name).map_err(|error| error.to_string())?,
+            rooms: rooms(name, named)?,
+            label: label.unwrap_or_default(),
+            inputs: Inputs(inputs),
         })
     }
-
-    /// The line of this case with a result of our own.
-    pub fn with_result(&self, result: &str) -> String {
-        format!("{}{result}", self.asked)
-    }
 }
 
-/// Value of a capital hexadecimal digit.
+/// Value of a hexadecimal digit of either case.
 fn digit(character: u8) -> Option<u8> {
-    let place = b"0123456789ABCDEF".iter().position(|d| *d == character)?;
+    let capital = character.to_ascii_uppercase();
+    let place = b"0123456789ABCDEF".iter().position(|d| *d == capital)?;
     Some(place as u8)
 }
 
-/// Value of two capital hexadecimal digits.
-fn byte(pair: &[u8]) -> Option<u8> {
-    match pair {
+/// One byte or more that hexadecimal digits write, two digits a byte.
+pub fn hexadecimal(digits: &[u8]) -> Option<Vec<u8>> {
+    let byte = |pair: &[u8]| match pair {
         [high, low] => Some(16 * digit(*high)? + digit(*low)?),
         _ => None,
+    };
+    let bytes: Option<Vec<u8>> = digits.chunks(2).map(byte).collect();
+    bytes.filter(|bytes| !bytes.is_empty())
+}
+
+/// Characters as such; `-` for none; `hex:` and hexadecimal digits for any bytes.
+fn as_such(input: &[u8]) -> Vec<u8> {
+    if input == b"-" {
+        return Vec::new();
+    }
+    let written = input.strip_prefix(b"hex:").and_then(hexadecimal);
+    written.unwrap_or(input.to_vec())
+}
+
+impl<'a> Inputs<'a> {
+    /// The next input, up to a space.
+    fn next(&mut self) -> Result<&'a [u8], String> {
+        let (input, rest) = split(self.0.ok_or("an input is missing")?, b' ');
+        self.0 = rest;
+        if input.is_empty() {
+            return Err("an empty input".to_string());
+        }
+        Ok(input)
+    }
+
+    /// An input of bytes: hexadecimal, `-` for none.
+    pub fn bytes(&mut self) -> Result<Vec<u8>, String> {
+        let input = self.next()?;
+        if input == b"-" {
+            return Ok(Vec::new());
+        }
+        let shown = String::from_utf8_lossy(input);
+        hexadecimal(input).ok_or(format!("`{shown}` is not hexadecimal bytes"))
+    }
+
+    /// An input of characters: a PIN or a card number.
+    pub fn characters(&mut self) -> Result<Vec<u8>, String> {
+        Ok(as_such(self.next()?))
+    }
+
+    /// An input of text: the rest of the line, with its spaces.
+    pub fn text(&mut self) -> Result<Vec<u8>, String> {
+        let rest = self.0.take().filter(|rest| !rest.is_empty());
+        Ok(as_such(rest.ok_or("a text is missing")?))
+    }
+
+    /// An input that is a decimal number.
+    pub fn number<T: std::str::FromStr>(&mut self) -> Result<T, String> {
+        decimal(self.next()?)
+    }
+
+    /// That no input is left.
+    pub fn end(&self) -> Result<(), String> {
+        match self.0 {
+            None => Ok(()),
+            Some(_) => Err("an input too many".to_string()),
+        }
     }
 }
 
-/// A field of bytes: capital hexadecimal, `-` for none.
-pub fn bytes(field: &str) -> Result<Vec<u8>, String> {
-    if field == "-" {
-        return Ok(Vec::new());
+/// The lines of requests with their numbers, from 1; empty lines and comments
+/// are passed over. An input without a request is an error.
+pub fn requests(input: impl BufRead) -> Result<Vec<(usize, Vec<u8>)>, String> {
+    let mut requests = Vec::new();
+    for (i, line) in input.split(b'\n').enumerate() {
+        let line = line.map_err(|error| format!("line {}: {error}", i + 1))?;
+        if !line.is_empty() && line[0] != b'#' {
+            requests.push((i + 1, line));
+        }
     }
-    let read: Option<Vec<u8>> = field.as_bytes().chunks(2).map(byte).collect();
-    read.filter(|bytes| !bytes.is_empty())
-        .ok_or(format!("`{field}` is not capital hexadecimal bytes"))
+    if requests.is_empty() {
+        return Err("the input holds no request".to_string());
+    }
+    Ok(requests)
 }
 
-/// A field of exactly so many bytes.
-pub fn sized<const N: usize>(field: &str) -> Result<[u8; N], String> {
-    let bytes = bytes(field)?;
-    bytes
-        .try_into()
-        .map_err(|_| format!("`{field}` is not {N} bytes"))
-}
-
-/// A field with a decimal number.
-pub fn number<T: std::str::FromStr>(field: &str) -> Result<T, String> {
-    let digits = field.bytes().all(|byte| byte.is_ascii_digit());
-    let read = field.parse().ok().filter(|_| digits);
-    read.ok_or(format!("`{field}` is not a decimal number in range"))
-}
-
-/// Bytes as a field: capital hexadecimal, `-` for none.
-pub fn field(bytes: &[u8]) -> String {
+/// A value of bytes as it is written: capital hexadecimal, `-` for none.
+pub fn bytes_value(bytes: &[u8]) -> String {
     if bytes.is_empty() {
         "-".to_string()
     } else {
         crate::bytes::hex(bytes)
+    }
+}
+
+/// A PIN or a cleaned text as it is written: as such, `-` for none.
+pub fn text_value(text: &[u8]) -> String {
+    assert!(text.is_ascii());
+    if text.is_empty() {
+        "-".to_string()
+    } else {
+        String::from_utf8_lossy(text).into_owned()
+    }
+}
+
+/// Values when done, as they are written, or the number of the refusal.
+pub type Answered = Result<Vec<String>, u8>;
+
+/// The line of an answer.
+pub fn answer_line(answered: &Answered) -> String {
+    match answered {
+        Ok(values) => format!("done {}", values.join(" ")),
+        Err(number) => format!("refused {number}"),
     }
 }

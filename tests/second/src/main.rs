@@ -1,14 +1,16 @@
 //! `second recompute`, `second openssl` and `second coverage` read lines of
-//! cases from standard input.
+//! requests from standard input, as the program `czg` does. Empty lines and
+//! lines that start with `#` are passed over.
 //!
-//! - `recompute` prints every line with its own result in place of the claimed.
-//! - `openssl` prints the DES and triple DES lines with the results of the
-//!   command `openssl enc -des-ede`; it ends with 3 if that cannot be used.
-//! - `coverage` says how many of the 512 S-box entries the `des-encrypt/s-boxes`
-//!   cases read together; it ends with 1 if not all.
+//! - `recompute` prints the line of the answer to each request.
+//! - `openssl` prints those of the encrypt and decrypt requests with a key of 8
+//!   or 16 bytes, a block of 8 and room for it, as the command `openssl enc
+//!   -des-ede` gives them; it ends with 3 if that cannot be used.
+//! - `coverage` says how many of the 512 S-box entries the `encrypt/s-boxes`
+//!   requests read together; it ends with 1 if not all.
 //!
-//! A wrong line, or an input without a case, ends with 1; no word or an unknown
-//! one with 2.
+//! A line that is no request, or an input without one, ends with 1; no word or
+//! an unknown one with 2.
 
 #![deny(missing_docs)]
 #![forbid(unsafe_code)]
@@ -71,7 +73,7 @@ fn main() -> ExitCode {
         ["openssl"] => run_openssl(),
         ["coverage"] => run_coverage(),
         _ => failed(
-            "usage: second recompute | openssl | coverage, with lines of cases on standard input",
+            "usage: second recompute | openssl | coverage, with lines of requests on standard input",
             2,
         ),
     }

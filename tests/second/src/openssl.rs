@@ -1,9 +1,9 @@
-//! Computes the DES and triple DES cases with the command `openssl enc
-//! -des-ede`: two-key triple DES of each block by itself, without padding. With
-//! both halves of the key the same it is DES.
+//! Answers the cipher requests with the command `openssl enc -des-ede`: two-key
+//! triple DES of each block by itself, without padding. With both halves of the
+//! key the same it is DES.
 
 use crate::bytes::{array, hex};
-use crate::lines::{field, is_passed_through, sized, Case};
+use crate::lines::{answer_line, bytes_value, requests, Request};
 use std::collections::BTreeMap;
 use std::io::{BufRead, Write};
 use std::process::{Command, Stdio};
@@ -11,7 +11,7 @@ use std::process::{Command, Stdio};
 /// A key of two halves and the direction, `-e` or `-d`.
 type Under = ([u8; 16], &'static str);
 
-/// One case: where it stands in the output, and its block.
+/// One request: where its answer stands in the output, and its block.
 type Place = (usize, [u8; 8]);
 
 /// Why nothing was computed.
@@ -53,91 +53,68 @@ fn try_out() -> Result<(), Failure> {
     tried.map(|_| ()).map_err(missing)
 }
 
-/// Both halves of the key for DES, the key itself for triple DES.
-fn key_and_block(case: &Case) -> Result<([u8; 16], [u8; 8]), String> {
-    let [key, block] = case.inputs[..] else {
-        return Err("a cipher case takes a key and a block".to_string());
+/// Key, direction and block of a line, if it asks for the cipher with a key of 8
+/// or 16 bytes, a block of 8 and room for the result.
+fn cipher_request(line: &[u8]) -> Result<Option<(Under, [u8; 8])>, String> {
+    let mut request = Request::read(line)?;
+    let direction = match request.name {
+        "encrypt" => "-e",
+        "decrypt" => "-d",
+        _ => return Ok(None),
     };
-    if case.operation.starts_with("des-") {
-        let single: [u8; 8] = sized(key)?;
-        Ok((array(&[single, single].concat()), sized(block)?))
-    } else {
-        Ok((sized(key)?, sized(block)?))
+    let (key, block) = (request.inputs.bytes()?, request.inputs.bytes()?);
+    request.inputs.end()?;
+    let key = match key.len() {
+        8 => key.repeat(2),
+        _ => key,
+    };
+    if key.len() != 16 || block.len() != 8 || request.rooms.result < 8 {
+        return Ok(None);
     }
+    Ok(Some(((array(&key), direction), array(&block))))
 }
 
-/// The direction of a cipher operation.
-fn direction(operation: &str) -> Result<&'static str, String> {
-    match operation {
-        "des-encrypt" | "triple-encrypt" => Ok("-e"),
-        "des-decrypt" | "triple-decrypt" => Ok("-d"),
-        _ => Err(format!("no cipher operation `{operation}`")),
+/// The cipher requests of the input, in its order.
+fn cipher_requests(input: impl BufRead) -> Result<Vec<(Under, [u8; 8])>, String> {
+    let mut found = Vec::new();
+    for (number, line) in requests(input)? {
+        let read = cipher_request(&line).map_err(|error| format!("line {number}: {error}"))?;
+        found.extend(read);
     }
+    if found.is_empty() {
+        return Err("the input holds no cipher request".to_string());
+    }
+    Ok(found)
 }
 
-/// Whether a line is a DES or triple DES case.
-fn is_cipher_case(line: &str) -> bool {
-    line.starts_with("des-") || line.starts_with("triple-")
-}
-
-/// The cipher cases of the input, in its order.
-fn cipher_lines(input: impl BufRead) -> Result<Vec<(usize, String)>, String> {
-    let mut lines = Vec::new();
-    for (i, line) in input.lines().enumerate() {
-        let line = line.map_err(|error| format!("line {}: {error}", i + 1))?;
-        if !is_passed_through(&line) && is_cipher_case(&line) {
-            lines.push((i + 1, line));
-        }
-    }
-    if lines.is_empty() {
-        return Err("the input holds no cipher case".to_string());
-    }
-    Ok(lines)
-}
-
-/// The cases grouped by key and direction, so that few processes are started.
-fn grouped(lines: &[(usize, String)]) -> Result<BTreeMap<Under, Vec<Place>>, String> {
+/// The requests grouped by key and direction, so that few processes are started.
+fn grouped(requests: &[(Under, [u8; 8])]) -> BTreeMap<Under, Vec<Place>> {
     let mut groups: BTreeMap<Under, Vec<Place>> = BTreeMap::new();
-    for (place, (number, line)) in lines.iter().enumerate() {
-        let at = |error| format!("line {number}: {error}");
-        let case = Case::read(line).map_err(at)?;
-        let direction = direction(case.operation).map_err(at)?;
-        let (key, block) = key_and_block(&case).map_err(at)?;
-        let group = groups.entry((key, direction)).or_default();
-        group.push((place, block));
+    for (place, (under, block)) in requests.iter().enumerate() {
+        groups.entry(*under).or_default().push((place, *block));
     }
-    Ok(groups)
+    groups
 }
 
-/// The results of all groups, in the order of the lines.
-fn results(groups: &BTreeMap<Under, Vec<Place>>) -> Result<Vec<String>, String> {
+/// The blocks that `openssl` gives for all groups, in the order of the requests.
+fn results(groups: &BTreeMap<Under, Vec<Place>>) -> Result<Vec<Vec<u8>>, String> {
     let mut results = BTreeMap::new();
     for (under, places) in groups {
         let blocks: Vec<u8> = places.iter().flat_map(|(_, block)| *block).collect();
         let computed = enc(under, &blocks)?;
         for ((place, _), block) in places.iter().zip(computed.chunks(8)) {
-            results.insert(*place, field(block));
+            results.insert(*place, block.to_vec());
         }
     }
     Ok(results.into_values().collect())
 }
 
-/// The cipher cases of the input with the results that `openssl` gives.
-fn computed_lines(input: impl BufRead) -> Result<Vec<String>, String> {
-    let lines = cipher_lines(input)?;
-    let results = results(&grouped(&lines)?)?;
-    let mut computed = Vec::new();
-    for ((_, line), result) in lines.iter().zip(&results) {
-        computed.push(Case::read(line)?.with_result(result));
-    }
-    Ok(computed)
-}
-
-/// Recomputes the cipher cases of the input and writes them in its order.
+/// Answers the cipher requests of the input, in its order.
 pub fn run(input: impl BufRead, output: &mut impl Write) -> Result<(), Failure> {
     try_out()?;
-    for line in computed_lines(input).map_err(Failure::Wrong)? {
-        let written = writeln!(output, "{line}");
+    let requests = cipher_requests(input).map_err(Failure::Wrong)?;
+    for block in results(&grouped(&requests)).map_err(Failure::Wrong)? {
+        let written = writeln!(output, "{}", answer_line(&Ok(vec![bytes_value(&block)])));
         written.map_err(|error| Failure::Wrong(error.to_string()))?;
     }
     Ok(())

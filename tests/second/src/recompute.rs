@@ -1,109 +1,92 @@
-//! Computes each case's result from its inputs alone.
+//! Computes the answer of each request from its inputs alone.
 
-use crate::dukpt::{from_bytes, terminal_load, terminal_next_key, to_bytes, NextKey};
-use crate::lines::{bytes, field, is_passed_through, number, sized, Case};
-use crate::numbers::Answer;
-use crate::{card, cleaning, des, dukpt, key_entry, mac, message, pin};
+use crate::dukpt::{to_bytes, NextKey};
+use crate::lines::{answer_line, bytes_value, requests, text_value};
+use crate::lines::{Answered, Inputs, Request, Rooms};
+use crate::numbers::{lend, Answer};
+use crate::{card, cleaning, dukpt, entries, key_entry, mac, message, pin};
 use std::io::{BufRead, Write};
 
-/// A result as a field: bytes, or `refused-N`.
-fn shown(answer: Answer) -> String {
-    match answer {
-        Ok(bytes) => field(&bytes),
-        Err(number) => format!("refused-{number}"),
-    }
+/// Reads the inputs of a request and computes its values, with the rooms lent.
+/// An error says what is wrong with the inputs.
+type Compute = fn(&mut Inputs, Rooms) -> Result<Answered, String>;
+
+/// The one value of bytes, if the room is enough for it.
+fn bytes(answer: Answer, rooms: Rooms) -> Result<Answered, String> {
+    let lent = answer.and_then(|value| lend(value, rooms.result));
+    Ok(lent.map(|value| vec![bytes_value(&value)]))
 }
 
-/// Byte form of a loading's record.
-fn loaded(initial: &[u8], serial: &[u8]) -> Answer {
-    terminal_load(initial, serial).map(|record| to_bytes(&record))
+/// The one value that is a PIN or a text, if the room is enough for it.
+fn text(answer: Answer, rooms: Rooms) -> Result<Answered, String> {
+    let lent = answer.and_then(|value| lend(value, rooms.result));
+    Ok(lent.map(|value| vec![text_value(&value)]))
 }
 
-/// Key, serial number and new record that a record's byte form gives.
-fn next_key(record: &[u8], room: usize) -> Answer {
-    let record = from_bytes(record)?;
-    let NextKey {
-        key,
-        serial,
-        record,
-    } = terminal_next_key(&record, room)?;
-    Ok([&key[..], &serial[..], &to_bytes(&record)].concat())
-}
-
-/// The result of a case; an error says what is wrong with its line.
-pub fn result(case: &Case) -> Result<String, String> {
-    let answer = match (case.operation, case.inputs.as_slice()) {
-        ("des-encrypt", [k, b]) => Ok(des::encrypt(&sized(k)?, &sized(b)?).to_vec()),
-        ("des-decrypt", [k, b]) => Ok(des::decrypt(&sized(k)?, &sized(b)?).to_vec()),
-        ("triple-encrypt", [k, b]) => Ok(des::triple_encrypt(&sized(k)?, &sized(b)?).to_vec()),
-        ("triple-decrypt", [k, b]) => Ok(des::triple_decrypt(&sized(k)?, &sized(b)?).to_vec()),
-
-        ("key-entry", [text, wanted, room]) => {
-            key_entry::key_entry(&bytes(text)?, number(wanted)?, number(room)?)
-        }
-        ("clean", [text, room]) => cleaning::clean(&bytes(text)?, number(room)?),
-        ("message-text", [m, room]) => message::message_text(&bytes(m)?, number(room)?),
-        ("text-mac", [key, text]) => mac::text_mac(&bytes(key)?, &bytes(text)?),
-        ("message-mac", [key, m]) => mac::message_mac(&bytes(key)?, &bytes(m)?),
-
-        ("pin-make", [p]) => pin::make(&bytes(p)?),
-        ("pin-make-with-card", [p, c]) => pin::make_with_card(&bytes(p)?, &bytes(c)?),
-        ("pin-read", [b, room]) => pin::read(&bytes(b)?, number(room)?),
-        ("pin-read-with-card", [b, c, room]) => {
-            pin::read_with_card(&bytes(b)?, &bytes(c)?, number(room)?)
-        }
-        ("pin-encipher", [p, key]) => pin::encipher(&bytes(p)?, &bytes(key)?),
-        ("pin-encipher-with-card", [p, c, key]) => {
-            pin::encipher_with_card(&bytes(p)?, &bytes(c)?, &bytes(key)?)
-        }
-        ("pin-decipher", [b, key, room]) => pin::decipher(&bytes(b)?, &bytes(key)?, number(room)?),
-        ("pin-decipher-with-card", [b, c, key, room]) => {
-            pin::decipher_with_card(&bytes(b)?, &bytes(c)?, &bytes(key)?, number(room)?)
-        }
-
-        ("derivation-data", [c, sequence]) => card::derivation_data(&bytes(c)?, number(sequence)?),
-        ("card-key", [master, c, sequence]) => {
-            card::card_key(&bytes(master)?, &bytes(c)?, number(sequence)?)
-        }
-        ("session-key", [key, counter]) => card::session_key(&bytes(key)?, sized(counter)?),
-        ("arqc", [key, data]) => card::arqc(&bytes(key)?, &bytes(data)?),
-        ("arpc", [key, arqc, code]) => card::arpc(&bytes(key)?, &bytes(arqc)?, &bytes(code)?),
-
-        ("initial-key", [key, serial]) => dukpt::initial_key(&bytes(key)?, &bytes(serial)?),
-        ("host-key", [key, serial]) => dukpt::host_key(&bytes(key)?, &bytes(serial)?),
-        ("terminal-load", [key, serial]) => loaded(&bytes(key)?, &bytes(serial)?),
-        ("terminal-next-key", [record, room]) => next_key(&bytes(record)?, number(room)?),
-
-        (operation, inputs) => {
-            let count = inputs.len();
-            return Err(format!("no operation `{operation}` with {count} inputs"));
-        }
+/// Key, serial number and the record after the call.
+fn next_key(answer: Result<NextKey, u8>) -> Result<Answered, String> {
+    let values = |next: NextKey| {
+        let record = to_bytes(&next.record);
+        [&next.key[..], &next.serial, &record].map(bytes_value)
     };
-    Ok(shown(answer))
+    Ok(answer.map(values).map(Vec::from))
 }
 
-/// The line with its own result in place of the claimed one.
-pub fn line(line: &str) -> Result<String, String> {
-    let case = Case::read(line)?;
-    Ok(case.with_result(&result(&case)?))
+/// Every request, by its name.
+#[rustfmt::skip]
+const REQUESTS: [(&str, Compute); 24] = [
+    ("encrypt", |i, r| bytes(entries::encrypt(&i.bytes()?, &i.bytes()?), r)),
+    ("decrypt", |i, r| bytes(entries::decrypt(&i.bytes()?, &i.bytes()?), r)),
+
+    ("key-entry", |i, r| {
+        let (wanted, text) = (i.number()?, i.text()?);
+        bytes(key_entry::key_entry(&text, wanted, r.result), r)
+    }),
+    ("clean", |i, r| text(cleaning::clean(&i.text()?, r.result), r)),
+    ("message-text", |i, r| text(message::message_text(&i.bytes()?, r.result), r)),
+    ("text-mac", |i, r| bytes(mac::text_mac(&i.bytes()?, &i.text()?), r)),
+    ("message-mac", |i, r| bytes(mac::message_mac(&i.bytes()?, &i.bytes()?), r)),
+
+    ("pin-make", |i, r| bytes(pin::make(&i.characters()?), r)),
+    ("pin-make-with-card", |i, r| bytes(pin::make_with_card(&i.characters()?, &i.characters()?), r)),
+    ("pin-read", |i, r| text(pin::read(&i.bytes()?, r.result), r)),
+    ("pin-read-with-card", |i, r| text(pin::read_with_card(&i.bytes()?, &i.characters()?, r.result), r)),
+    ("pin-encipher", |i, r| bytes(pin::encipher(&i.characters()?, &i.bytes()?), r)),
+    ("pin-encipher-with-card", |i, r| {
+        bytes(pin::encipher_with_card(&i.characters()?, &i.characters()?, &i.bytes()?), r)
+    }),
+    ("pin-decipher", |i, r| text(pin::decipher(&i.bytes()?, &i.bytes()?, r.result), r)),
+    ("pin-decipher-with-card", |i, r| {
+        text(pin::decipher_with_card(&i.bytes()?, &i.characters()?, &i.bytes()?, r.result), r)
+    }),
+
+    ("derivation-data", |i, r| bytes(card::derivation_data(&i.characters()?, i.number()?), r)),
+    ("card-key", |i, r| bytes(card::card_key(&i.bytes()?, &i.characters()?, i.number()?), r)),
+    ("session-key", |i, r| bytes(card::session_key(&i.bytes()?, i.number::<u16>()?.to_be_bytes()), r)),
+    ("arqc", |i, r| bytes(card::arqc(&i.bytes()?, &i.bytes()?), r)),
+    ("arpc", |i, r| bytes(card::arpc(&i.bytes()?, &i.bytes()?, &i.bytes()?), r)),
+
+    ("initial-key", |i, r| bytes(dukpt::initial_key(&i.bytes()?, &i.bytes()?), r)),
+    ("host-key", |i, r| bytes(dukpt::host_key(&i.bytes()?, &i.bytes()?), r)),
+    ("terminal-load", |i, r| bytes(entries::terminal_load(&i.bytes()?, &i.bytes()?), r)),
+    ("terminal-next-key", |i, r| next_key(entries::terminal_next_key(&i.bytes()?, r.result, r.serial))),
+];
+
+/// The answer's line of a request's line; an error says why it is no request.
+pub fn answer(line: &[u8]) -> Result<String, String> {
+    let mut request = Request::read(line)?;
+    let found = REQUESTS.iter().find(|(name, _)| *name == request.name);
+    let (_, compute) = found.ok_or(format!("no request `{}`", request.name))?;
+    let answered = compute(&mut request.inputs, request.rooms)?;
+    request.inputs.end()?;
+    Ok(answer_line(&answered))
 }
 
-/// Recomputes every line of the input; an input without any case is an error.
+/// Answers every request of the input. A line that is no request is an error.
 pub fn run(input: impl BufRead, output: &mut impl Write) -> Result<(), String> {
-    let mut cases = 0;
-    for (i, read) in input.lines().enumerate() {
-        let at = |error| format!("line {}: {error}", i + 1);
-        let read = read.map_err(|error| at(error.to_string()))?;
-        let own = if is_passed_through(&read) {
-            read
-        } else {
-            cases += 1;
-            line(&read).map_err(at)?
-        };
-        writeln!(output, "{own}").map_err(|error| error.to_string())?;
-    }
-    if cases == 0 {
-        return Err("the input holds no case".to_string());
+    for (number, line) in requests(input)? {
+        let answer = answer(&line).map_err(|error| format!("line {number}: {error}"))?;
+        writeln!(output, "{answer}").map_err(|error| error.to_string())?;
     }
     Ok(())
 }

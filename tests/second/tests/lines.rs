@@ -1,116 +1,190 @@
-//! Lines of cases, and the program over them.
+//! Lines of requests and answers, and the program over them.
 
 mod common;
 
 use common::{hex, SUBSTITUTION};
+use second::bytes::hex as shown;
 use second::dukpt::{terminal_load, terminal_next_key, to_bytes};
-use second::lines::field;
-use second::recompute::line;
+use second::recompute::answer;
 use std::io::Write;
 use std::process::{Command, Output, Stdio};
 
-/// Lines with the right result, one or more for every operation.
+/// Requests with their answers, one or more for every name but the terminal's.
 const RIGHT: &str = "\
-des-encrypt/worked 133457799BBCDFF1 0123456789ABCDEF 85E813540F0AB405
-des-decrypt/worked 133457799BBCDFF1 85E813540F0AB405 0123456789ABCDEF
-triple-encrypt/arpc D4102725E6E5AD329E55AAB50BF23DA9 6D306C91005E7CC2 21415243527CE78F
-triple-decrypt/arpc D4102725E6E5AD329E55AAB50BF23DA9 21415243527CE78F 6D306C91005E7CC2
-key-entry/done 30313233343536373839616263646566 8 8 0123456789ABCDEF
-key-entry/size 30 8 8 refused-6
-key-entry/empty - 8 8 refused-6
-clean/a 6162202063 4 41422043
-clean/e 2D2D2D 0 -
-clean/room 6162202063 3 refused-13
-clean/empty - 0 -
-message-text/whole 04000000303230300600030030303030303008002900612D312020202020 166 \
-3032303020303030303030204131
-message-text/empty - 0 refused-1
-text-mac/empty 133457799BBCDFF1 2D2D2D refused-5
-text-mac/no-key - 41 refused-6
-message-mac/no-key - - refused-6
-message-mac/empty 133457799BBCDFF1 - refused-1
-pin-make/f 31323334 041234FFFFFFFFFF
-pin-make/j 313233 refused-6
-pin-make-with-card/h 31323334 34323139383736353433323130393837 0412AC89ABCDEF67
-pin-read/f 041234FFFFFFFFFF 12 31323334
-pin-read/i 03123FFFFFFFFFFF 12 refused-8
-pin-read-with-card/h 0412AC89ABCDEF67 34323139383736353433323130393837 4 31323334
-pin-encipher/key 31323334 - refused-6
-pin-encipher-with-card/card 31323334 - 133457799BBCDFF1 refused-6
-pin-decipher/none 0000000000000000 133457799BBCDFF1 12 refused-8
-pin-decipher-with-card/card 0000000000000000 - 133457799BBCDFF1 12 refused-6
-derivation-data/l 36323238303030313030303031 1 0622800010000101
-derivation-data/sequence 36323238303030313030303031 100 refused-6
-card-key/004 F0C34A8124CEE0A91A0B034AA97D6EAC 36323238303030313030303031 1 \
-014D996FCC8F49157DC8B49E3BCDFD99
-session-key/004 014D996FCC8F49157DC8B49E3BCDFD99 0240 D4102725E6E5AD329E55AAB50BF23DA9
+encrypt/worked 133457799BBCDFF1 0123456789ABCDEF = done 85E813540F0AB405
+encrypt/small-letters 133457799bbcdff1 0123456789abcdef = done 85E813540F0AB405
+encrypt/arpc D4102725E6E5AD329E55AAB50BF23DA9 6D306C91005E7CC2 = done 21415243527CE78F
+encrypt/key 133457799BBCDF 0123456789ABCDEF = refused 6
+encrypt/long-key D4102725E6E5AD329E55AAB50BF23DA9D4102725E6E5AD32 0123456789ABCDEF = refused 6
+encrypt/block 133457799BBCDFF1 - = refused 6
+encrypt@7/room 133457799BBCDFF1 0123456789ABCDEF = refused 13
+encrypt@0/size-first 133457799BBCDFF1 0123456789ABCD = refused 6
+decrypt/worked 133457799BBCDFF1 85E813540F0AB405 = done 0123456789ABCDEF
+decrypt/arpc D4102725E6E5AD329E55AAB50BF23DA9 21415243527CE78F = done 6D306C91005E7CC2
+decrypt/none - - = refused 6
+decrypt@8 133457799BBCDFF1 85E813540F0AB405 = done 0123456789ABCDEF
+key-entry@8/done 8 0123456789abcdef = done 0123456789ABCDEF
+key-entry@7/room 8 0123456789abcdef = refused 13
+key-entry/size 8 0 = refused 6
+key-entry/empty 8 - = refused 6
+key-entry/space 8 01234567 9ABCDEF = refused 7
+key-entry/largest 18446744073709551615 0123456789ABCDEF = refused 6
+clean/a ab  c = done AB C
+clean/before   ab = done AB
+clean/after hex:616220 = done AB
+clean/no-hex hex:616220x = done HEX616220X
+clean/odd hex:616 = done HEX616
+clean/hyphen hex:2D = done -
+clean/hyphens --- = done -
+clean/words hex:61 62 = done HEX61 62
+clean@3/room ab  c = refused 13
+clean@0/empty - = done -
+clean ab/c@d #e = done ABCD E
+message-text/whole 04000000303230300600030030303030303008002900612D312020202020 = done 0200 000000 A1
+message-text@0/empty - = refused 1
+text-mac/empty 133457799BBCDFF1 --- = refused 5
+text-mac/no-key - A = refused 6
+message-mac/no-key - - = refused 6
+message-mac/empty 133457799BBCDFF1 - = refused 1
+pin-make/f 1234 = done 041234FFFFFFFFFF
+pin-make/hex hex:31323334 = done 041234FFFFFFFFFF
+pin-make/j 123 = refused 6
+pin-make/none - = refused 6
+pin-make/hyphen hex:2D = refused 6
+pin-make/prefix hex: = refused 7
+pin-make@7/room 1234 = refused 13
+pin-make-with-card/h 1234 4219876543210987 = done 0412AC89ABCDEF67
+pin-read/f 041234FFFFFFFFFF = done 1234
+pin-read/i 03123FFFFFFFFFFF = refused 8
+pin-read-with-card@4/h 0412AC89ABCDEF67 4219876543210987 = done 1234
+pin-read-with-card@3/h 0412AC89ABCDEF67 4219876543210987 = refused 13
+pin-encipher/key 1234 - = refused 6
+pin-encipher/done 1234 0123456789ABCDEF = done 286344C32894AFB6
+pin-encipher-with-card/card 1234 - 133457799BBCDFF1 = refused 6
+pin-decipher/none 0000000000000000 133457799BBCDFF1 = refused 8
+pin-decipher/done 286344C32894AFB6 0123456789ABCDEF = done 1234
+pin-decipher-with-card/card 0000000000000000 - 133457799BBCDFF1 = refused 6
+derivation-data/l 6228000100001 1 = done 0622800010000101
+derivation-data/sequence 6228000100001 100 = refused 6
+card-key/004 F0C34A8124CEE0A91A0B034AA97D6EAC 6228000100001 1 = done 014D996FCC8F49157DC8B49E3BCDFD99
+session-key/004 014D996FCC8F49157DC8B49E3BCDFD99 576 = done D4102725E6E5AD329E55AAB50BF23DA9
+session-key@15/room 014D996FCC8F49157DC8B49E3BCDFD99 576 = refused 13
 arqc/004 D4102725E6E5AD329E55AAB50BF23DA9 \
-000000000001000000000000015600800460000156140701001E78EEBC7D00024003A04002 5D016C91005E7CC2
-arpc/004 D4102725E6E5AD329E55AAB50BF23DA9 5D016C91005E7CC2 3031 21415243527CE78F
-initial-key/002 51525457585B5D5E61626467686B6D6E 0123456789ABCDF00001 21EE7C08DBE820AB
-host-key/002 51525457585B5D5E61626467686B6D6E 0123456789ABCDF00001 670B395E6CFB60C2
-host-key/zero 51525457585B5D5E61626467686B6D6E 0123456789ABCDE00000 refused-10
-terminal-load/size - - refused-6
-terminal-next-key/size - 8 refused-6
+000000000001000000000000015600800460000156140701001E78EEBC7D00024003A04002 = done 5D016C91005E7CC2
+arpc/004 D4102725E6E5AD329E55AAB50BF23DA9 5D016C91005E7CC2 3031 = done 21415243527CE78F
+initial-key/002 51525457585B5D5E61626467686B6D6E 0123456789ABCDF00001 = done 21EE7C08DBE820AB
+host-key/002 51525457585B5D5E61626467686B6D6E 0123456789ABCDF00001 = done 670B395E6CFB60C2
+host-key/zero 51525457585B5D5E61626467686B6D6E 0123456789ABCDE00000 = refused 10
+terminal-load/size - - = refused 6
+terminal-next-key/size - = refused 6
 ";
 
-/// The line with another claimed result.
-fn with_claim(line: &str, claim: &str) -> String {
-    let (asked, _) = line.rsplit_once(' ').unwrap();
-    format!("{asked} {claim}")
+/// The requests of `RIGHT` with their answers.
+fn right() -> Vec<(&'static str, &'static str)> {
+    let pairs = RIGHT.lines().map(|line| line.split_once(" = ").unwrap());
+    pairs.collect()
+}
+
+/// Lines, each with its end.
+fn joined<'a>(lines: impl Iterator<Item = &'a str>) -> String {
+    lines.map(|line| format!("{line}\n")).collect()
 }
 
 #[test]
-fn every_operation_whatever_was_claimed() {
-    for right in RIGHT.lines() {
-        assert_eq!(line(right).as_deref(), Ok(right));
-        assert_eq!(line(&with_claim(right, "refused-0")).as_deref(), Ok(right));
-        assert_eq!(line(&with_claim(right, "-")).as_deref(), Ok(right));
+fn every_name() {
+    for (request, right) in right() {
+        assert_eq!(
+            answer(request.as_bytes()).as_deref(),
+            Ok(right),
+            "{request}"
+        );
     }
 }
 
 #[test]
-fn terminal_operations() {
+fn terminal_requests() {
     let loaded = terminal_load(&hex("21EE7C08DBE820AB"), &hex("0123456789ABCDF00001")).unwrap();
     let next = terminal_next_key(&loaded, 8).unwrap();
-    let record = field(&to_bytes(&loaded));
-    let asked = "terminal-load/002 21EE7C08DBE820AB 0123456789ABCDF00001";
-    let right = format!("{asked} {record}");
-    assert_eq!(line(&with_claim(&right, "x")), Ok(right));
-    let given = [&next.key[..], &next.serial, &to_bytes(&next.record)].concat();
-    let right = format!("terminal-next-key/1 {record} 8 {}", field(&given));
-    assert_eq!(line(&with_claim(&right, "x")), Ok(right));
-    let right = format!("terminal-next-key/room {record} 7 refused-13");
-    assert_eq!(line(&with_claim(&right, "x")), Ok(right));
+    let record = shown(&to_bytes(&loaded));
+    let asked = |request: &str| answer(request.as_bytes()).unwrap();
+    let load = "/002 21EE7C08DBE820AB 0123456789ABCDF00001";
+    assert_eq!(
+        asked(&format!("terminal-load{load}")),
+        format!("done {record}")
+    );
+    assert_eq!(
+        asked(&format!("terminal-load@187{load}")),
+        format!("done {record}")
+    );
+    assert_eq!(asked(&format!("terminal-load@186{load}")), "refused 13");
+    let (key, serial) = (shown(&next.key), shown(&next.serial));
+    let given = format!("done {key} {serial} {}", shown(&to_bytes(&next.record)));
+    for rooms in ["", "@8", "@8,10", "@1024,1024", "/label", "@9/label"] {
+        assert_eq!(asked(&format!("terminal-next-key{rooms} {record}")), given);
+    }
+    for rooms in ["@7", "@0,10", "@8,9", "@8,0/label"] {
+        assert_eq!(
+            asked(&format!("terminal-next-key{rooms} {record}")),
+            "refused 13"
+        );
+    }
     let zeros = "00".repeat(187);
-    let right = format!("terminal-next-key/zeros {zeros} 0 refused-11");
-    assert_eq!(line(&with_claim(&right, "x")), Ok(right));
+    assert_eq!(asked(&format!("terminal-next-key@0 {zeros}")), "refused 11");
+}
+
+#[test]
+fn bytes_that_are_no_text() {
+    let asked = |request: &[u8]| answer(request).unwrap();
+    assert_eq!(asked(b"clean a\xFF\xC3b\r"), "done AB");
+    assert_eq!(asked(b"clean/\xFF a"), "done A");
+    assert_eq!(asked(b"pin-make 12\xFF4"), "refused 7");
 }
 
 #[test]
 fn wrong_lines() {
     for wrong in [
         "x",
-        "des-encrypt 133457799BBCDFF1 0123456789ABCDEF 00",
-        "des-encrypt/ 133457799BBCDFF1 0123456789ABCDEF 00",
+        "help",
+        "encrypt",
+        "encrypt/x",
+        "encrypt/x ",
+        "encrypt/x 133457799BBCDFF1",
+        "encrypt/x 133457799BBCDFF1 ",
+        "encrypt/x 133457799BBCDFF1 0123456789ABCDEF ",
+        "encrypt/x 133457799BBCDFF1 0123456789ABCDEF 00",
+        "encrypt/x 133457799BBCDFF1  0123456789ABCDEF",
+        "encrypt/x  133457799BBCDFF1 0123456789ABCDEF",
+        "encrypt/x 133457799BBCDFF 0123456789ABCDEF",
+        "encrypt/x 133457799BBCDFG1 0123456789ABCDEF",
+        "encrypt/x hex:133457799BBCDFF1 0123456789ABCDEF",
+        " encrypt/x 133457799BBCDFF1 0123456789ABCDEF",
+        "Encrypt/x 133457799BBCDFF1 0123456789ABCDEF",
         "des-encrypt/x 133457799BBCDFF1 0123456789ABCDEF",
-        "des-encrypt/x 133457799BBCDFF1 0123456789ABCDEF ",
-        "des-encrypt/x 133457799BBCDFF1  0123456789ABCDEF 00",
-        "des-encrypt/x 133457799BBCDFF1 0123456789ABCDEF 00 00",
-        "des-encrypt/x 133457799BBCDF 0123456789ABCDEF 00",
-        "des-encrypt/x 133457799bbcdff1 0123456789ABCDEF 00",
-        "des-encrypt/x 133457799BBCDFF 0123456789ABCDEF 00",
-        "triple-encrypt/x 133457799BBCDFF1 0123456789ABCDEF 00",
-        "des/x 133457799BBCDFF1 0123456789ABCDEF 00",
-        " des-encrypt/x 133457799BBCDFF1 0123456789ABCDEF 00",
-        "clean/x 41 -1 00",
-        "clean/x 41 +1 00",
-        "clean/x 41 99999999999999999999999 00",
-        "session-key/x 014D996FCC8F49157DC8B49E3BCDFD99 240 00",
-        "session-key/x 014D996FCC8F49157DC8B49E3BCDFD99 000240 00",
+        "encrypt@/x 133457799BBCDFF1 0123456789ABCDEF",
+        "encrypt@1025/x 133457799BBCDFF1 0123456789ABCDEF",
+        "encrypt@-1/x 133457799BBCDFF1 0123456789ABCDEF",
+        "encrypt@+8/x 133457799BBCDFF1 0123456789ABCDEF",
+        "encrypt@8,10/x 133457799BBCDFF1 0123456789ABCDEF",
+        "encrypt@8@8/x 133457799BBCDFF1 0123456789ABCDEF",
+        "terminal-next-key@8,/x 00",
+        "terminal-next-key@8,1025/x 00",
+        "terminal-next-key@8,10,10/x 00",
+        "clean",
+        "clean/x ",
+        "key-entry/x 0123456789ABCDEF",
+        "key-entry/x 8",
+        "key-entry/x 8 ",
+        "key-entry/x 18446744073709551616 0123456789ABCDEF",
+        "pin-make/x 1234 ",
+        "pin-make/x 12 34",
+        "derivation-data/x 6228000100001 4294967296",
+        "derivation-data/x 6228000100001 -",
+        "session-key/x 014D996FCC8F49157DC8B49E3BCDFD99 65536",
+        "session-key/x 014D996FCC8F49157DC8B49E3BCDFD99 FF",
     ] {
-        assert!(line(wrong).is_err(), "{wrong}");
+        assert!(answer(wrong.as_bytes()).is_err(), "{wrong}");
     }
+    assert!(answer(b"\xFFclean/x a").is_err());
 }
 
 /// Runs the program with some words and input.
@@ -131,25 +205,42 @@ fn second(words: &[&str], input: &str) -> (Option<i32>, String, String) {
 
 #[test]
 fn program_recomputes() {
-    let input = format!("# published\n\n{RIGHT}");
-    let (code, output, errors) = second(&["recompute"], &input);
-    assert_eq!((code, output, errors), (Some(0), input, String::new()));
+    let asked = joined(right().into_iter().map(|(request, _)| request));
+    let answers = joined(right().into_iter().map(|(_, answer)| answer));
+    let right = (Some(0), answers, String::new());
+    assert_eq!(second(&["recompute"], &asked), right);
+    let commented = format!("# published\n\n{}", asked.replace('\n', "\n\n#\n"));
+    assert_eq!(second(&["recompute"], &commented), right);
+    // The last line may lack its end.
+    assert_eq!(second(&["recompute"], asked.trim_end()), right);
 }
 
 #[test]
 fn program_names_a_wrong_line() {
-    let (code, _, errors) = second(&["recompute"], "# first\n\nnone/x 00 00\n");
-    assert_eq!(code, Some(1));
-    assert!(errors.contains("line 3"));
+    for (word, wrong) in [
+        ("recompute", "none/x 00 00"),
+        ("recompute", " "),
+        ("openssl", "encrypt/x 00"),
+        ("coverage", "encrypt/s-boxes-01 00 00"),
+    ] {
+        let input = format!("# first\n\n{}\n{wrong}\n", right()[0].0);
+        let (code, _, errors) = second(&[word], &input);
+        if code == Some(3) {
+            continue;
+        }
+        assert_eq!(code, Some(1));
+        assert!(errors.contains("line 4"), "{errors}");
+    }
 }
 
 #[test]
-fn program_refuses_an_input_without_cases() {
+fn program_refuses_an_input_without_requests() {
     for input in ["", "\n", "# nothing\n"] {
         assert_eq!(second(&["recompute"], input).0, Some(1));
         assert_ne!(second(&["openssl"], input).0, Some(0));
         assert_eq!(second(&["coverage"], input).0, Some(1));
     }
+    assert_ne!(second(&["openssl"], "clean a\n").0, Some(0));
 }
 
 #[test]
@@ -164,29 +255,33 @@ fn program_wants_a_known_word() {
 #[test]
 fn program_counts_entries() {
     let lines = SUBSTITUTION.iter().enumerate();
-    let lines = lines.map(|(i, [k, b, r])| format!("des-encrypt/s-boxes-{i:02} {k} {b} {r}\n"));
+    let lines = lines.map(|(i, [k, b, _])| format!("encrypt/s-boxes-{i:02} {k} {b}\n"));
     let all: String = lines.collect();
     let (code, output, _) = second(&["coverage"], &all);
     assert_eq!(code, Some(0));
     assert!(output.contains("512 of 512"));
     let first = all.lines().next().unwrap();
     assert_eq!(second(&["coverage"], first).0, Some(1));
-    let others = all.replace("s-boxes", "other");
-    assert_eq!(second(&["coverage"], &others).0, Some(1));
+    for others in [
+        all.replace("s-boxes", "other"),
+        all.replace("encrypt", "decrypt"),
+    ] {
+        assert_eq!(second(&["coverage"], &others).0, Some(1));
+    }
 }
 
 #[test]
 fn program_asks_openssl() {
-    let claimed: Vec<String> = RIGHT.lines().map(|right| with_claim(right, "-")).collect();
-    let (code, output, errors) = second(&["openssl"], &claimed.join("\n"));
+    let asked = joined(right().into_iter().map(|(request, _)| request));
+    let (code, output, errors) = second(&["openssl"], &asked);
     if code == Some(3) {
         assert_eq!(errors.lines().count(), 1);
         return;
     }
-    let ciphers = RIGHT
-        .lines()
-        .filter(|l| l.starts_with("des-") || l.starts_with("triple-"));
-    let ciphers: Vec<&str> = ciphers.collect();
+    let ciphers = right().into_iter().filter(|(request, answer)| {
+        let cipher = request.starts_with("encrypt") || request.starts_with("decrypt");
+        cipher && answer.starts_with("done")
+    });
     assert_eq!((code, errors), (Some(0), String::new()));
-    assert_eq!(output.lines().collect::<Vec<_>>(), ciphers);
+    assert_eq!(output, joined(ciphers.map(|(_, answer)| answer)));
 }

@@ -4,12 +4,12 @@
 use second::dukpt::{register_key, Record};
 use second::lines;
 
-/// Bytes of capital hexadecimal digits, spaces aside.
+/// Bytes of hexadecimal digits, spaces aside.
 pub fn hex(digits: &str) -> Vec<u8> {
-    lines::bytes(&digits.replace(' ', "")).expect("hexadecimal")
+    lines::hexadecimal(digits.replace(' ', "").as_bytes()).expect("hexadecimal")
 }
 
-/// Exactly so many bytes of capital hexadecimal digits.
+/// Exactly so many bytes of hexadecimal digits.
 pub fn sized<const N: usize>(digits: &str) -> [u8; N] {
     hex(digits).try_into().expect("the size")
 }
