@@ -124,7 +124,7 @@ czg_answer czg_clean(const uint8_t *text, size_t text_size, uint8_t *out, size_t
  * two bytes, both little-endian, then the body. Present listed fields are joined in rising order with one space between
  * (2, 32 and 33 with two digits of length before them, 90 by its first 20 digits), and the whole is cleaned. Writes at
  * most 166 bytes.
- * Refusals: 6; then records one at a time, each 1, 2, 4, 3; then 13. An empty message is 1.
+ * Refusals: 6, 1 (an empty message too), 2, 4, 3 (of one record 1, 2, 4, 3 before any of the next), 13.
  */
 czg_answer czg_message_text(const uint8_t *message, size_t message_size, uint8_t *out, size_t out_size);
 
@@ -138,7 +138,7 @@ czg_answer czg_text_mac(const uint8_t *key, size_t key_size, const uint8_t *text
 
 /*
  * The MAC of a message under a key of 8 bytes: of its MAC text, as above. Writes 8 bytes.
- * Refusals: 6 (key, message); then records one at a time, each 1, 2, 4, 3; then 13.
+ * Refusals: 6 (key, message), 1 (an empty message too), 2, 4, 3 (of one record 1, 2, 4, 3 before any of the next), 13.
  */
 czg_answer czg_message_mac(const uint8_t *key, size_t key_size, const uint8_t *message, size_t message_size,
                            uint8_t *out, size_t out_size);

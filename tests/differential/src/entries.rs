@@ -3,8 +3,9 @@
 use crate::messages::{message, text};
 use crate::random::Random;
 use chizuregwo::{lent, Error};
-use second::numbers::{Answer, SIZE};
-use second::{card, cleaning, des, dukpt, key_entry, mac, message as messages, pin};
+use second::entries::{decrypt, encrypt, terminal_load};
+use second::numbers::Answer;
+use second::{card, cleaning, dukpt, key_entry, mac, message as messages, pin};
 
 /// Room that no result fills.
 const ENOUGH: usize = usize::MAX;
@@ -17,6 +18,7 @@ pub struct Input {
 
 /// An entry and how it is called in the library and in the second implementation.
 pub struct Entry {
+    /// Its name in the header, without `czg_`.
     pub name: &'static str,
     /// Inputs of every thousand.
     pub share: usize,
@@ -34,21 +36,6 @@ fn parts(parts: Vec<Vec<u8>>) -> Input {
 fn key(random: &mut Random) -> Vec<u8> {
     let size = random.one_of(&[8, 16]);
     random.sized(size)
-}
-
-/// DES or triple DES by the key's size: 6.
-fn cipher(
-    key: &[u8],
-    block: &[u8],
-    single: fn(&[u8; 8], &[u8; 8]) -> [u8; 8],
-    triple: fn(&[u8; 16], &[u8; 8]) -> [u8; 8],
-) -> Answer {
-    let block: &[u8; 8] = block.try_into().map_err(|_| SIZE)?;
-    if let Ok(key) = key.try_into() {
-        return Ok(single(key, block).to_vec());
-    }
-    let key = key.try_into().map_err(|_| SIZE)?;
-    Ok(triple(key, block).to_vec())
 }
 
 fn cipher_input(random: &mut Random) -> Input {
@@ -140,8 +127,7 @@ fn read_with_card_input(random: &mut Random) -> Input {
 
 /// A clear block enciphered under a key, if that has a key's size.
 fn enciphered(random: &mut Random, key: &[u8], block: [u8; 8]) -> Vec<u8> {
-    let enciphered = cipher(key, &block, des::encrypt, des::triple_encrypt);
-    let block = enciphered.map_or(block, |bytes| bytes.try_into().expect("8 bytes"));
+    let block = encrypt(key, &block).map_or(block, |bytes| bytes.try_into().expect("8 bytes"));
     resized(random, block)
 }
 
@@ -231,14 +217,14 @@ pub const ENTRIES: [Entry; 23] = [
         share: 40,
         input: cipher_input,
         library: |i, out| lent::encrypt(&i.parts[0], &i.parts[1], out),
-        second: |i| cipher(&i.parts[0], &i.parts[1], des::encrypt, des::triple_encrypt),
+        second: |i| encrypt(&i.parts[0], &i.parts[1]),
     },
     Entry {
         name: "decrypt",
         share: 40,
         input: cipher_input,
         library: |i, out| lent::decrypt(&i.parts[0], &i.parts[1], out),
-        second: |i| cipher(&i.parts[0], &i.parts[1], des::decrypt, des::triple_decrypt),
+        second: |i| decrypt(&i.parts[0], &i.parts[1]),
     },
     Entry {
         name: "key_entry",
@@ -394,9 +380,6 @@ pub const ENTRIES: [Entry; 23] = [
         share: 15,
         input: |random| parts(vec![random.sized(8), serial_number(random)]),
         library: |i, out| lent::terminal_load(&i.parts[0], &i.parts[1], out),
-        second: |i| {
-            let record = dukpt::terminal_load(&i.parts[0], &i.parts[1])?;
-            Ok(dukpt::to_bytes(&record))
-        },
+        second: |i| terminal_load(&i.parts[0], &i.parts[1]),
     },
 ];

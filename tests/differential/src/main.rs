@@ -3,17 +3,23 @@
 //! COUNT seeded inputs (200,000 if not given) over every entry, whole and damaged, long and short, with buffers of any
 //! room; then records damaged byte by byte; then one terminal drained of KEYS keys (all 1,048,575 if not given). Prints a
 //! line for each kind and how often each number was answered. Ends at the first difference with its input, status 1.
+//!
+//! Each entry must have answered every refusal that chizuregwo.h lists with it, and no other, and every entry of the
+//! header must have been called.
 
 #![forbid(unsafe_code)]
 
 mod compare;
 mod entries;
+mod header;
 mod messages;
 mod random;
 mod terminals;
 
 use entries::ENTRIES;
+use header::Listed;
 use random::Random;
+use std::collections::BTreeMap;
 use std::process::ExitCode;
 use std::time::Instant;
 
@@ -22,9 +28,17 @@ const NEXT_KEY_SHARE: usize = 40;
 /// One key in so many of the drain is compared with the second implementation's.
 const SAMPLE: usize = 1009;
 
+/// The fewest inputs with which every pair of entry and refusal is answered.
+const LEAST_COUNT: usize = 10_000;
+/// Each pair is to be answered once in so many inputs, and at least once.
+const PAIR_IN: usize = 40_000;
+
 /// How often each number was answered.
 #[derive(Default)]
 struct Seen([usize; 14]);
+
+/// What each entry answered, by its name.
+type All = BTreeMap<&'static str, Seen>;
 
 impl Seen {
     /// Counts a number.
@@ -32,8 +46,8 @@ impl Seen {
         self.0[number as usize] += 1;
     }
 
-    /// Prints a line for one kind and adds its counts to those of all.
-    fn print(&self, kind: &str, all: &mut Seen) {
+    /// Prints a line for one kind and adds its counts to those of an entry.
+    fn print(&self, kind: &str, entry: &'static str, all: &mut All) {
         let inputs: usize = self.0.iter().sum();
         let refused: Vec<String> = (1..14)
             .filter(|number| self.0[*number] > 0)
@@ -44,9 +58,29 @@ impl Seen {
             self.0[0],
             refused.join(", ")
         );
-        for (sum, count) in all.0.iter_mut().zip(self.0) {
+        let sums = &mut all.entry(entry).or_default().0;
+        for (sum, count) in sums.iter_mut().zip(self.0) {
             *sum += count;
         }
+    }
+
+    /// Holds the numbers answered to those that the header lists: each of these, and done, at least so often, and no other.
+    fn agrees(&self, listed: &Listed, least: usize) -> Result<(), String> {
+        let name = &listed.name;
+        for (number, times) in self.0.iter().enumerate() {
+            let is_listed = number == 0 || listed.refusals.contains(&(number as u8));
+            if is_listed && *times < least {
+                return Err(format!(
+                    "czg_{name} answered {number} {times} times, where {least} are the least"
+                ));
+            }
+            if !is_listed && *times > 0 {
+                return Err(format!(
+                    "czg_{name} answered {number}, which the header does not list with it"
+                ));
+            }
+        }
+        Ok(())
     }
 }
 
@@ -58,18 +92,18 @@ fn argument(place: usize, default: u64) -> Result<u64, String> {
     }
 }
 
-/// So many inputs of one kind.
+/// So many inputs of one entry.
 fn run(
-    kind: &str,
+    entry: &'static str,
     count: usize,
-    all: &mut Seen,
+    all: &mut All,
     mut one: impl FnMut() -> Result<u8, String>,
 ) -> Result<(), String> {
     let mut seen = Seen::default();
     for n in 1..=count {
-        seen.count(one().map_err(|difference| format!("{kind}, input {n}: {difference}"))?);
+        seen.count(one().map_err(|difference| format!("{entry}, input {n}: {difference}"))?);
     }
-    seen.print(kind, all);
+    seen.print(entry, entry, all);
     Ok(())
 }
 
@@ -87,9 +121,9 @@ fn asked() -> Result<Asked, String> {
         keys: argument(2, terminals::ALL_KEYS as u64)? as usize,
         seed: argument(3, 20_241_115)?,
     };
-    if asked.count < 1000 || asked.keys > terminals::ALL_KEYS || std::env::args().len() > 4 {
+    if asked.count < LEAST_COUNT || asked.keys > terminals::ALL_KEYS || std::env::args().len() > 4 {
         return Err(
-            "usage: differential [COUNT [KEYS [SEED]]], COUNT at least 1000, KEYS at most 1048575"
+            "usage: differential [COUNT [KEYS [SEED]]], COUNT at least 10000, KEYS at most 1048575"
                 .to_string(),
         );
     }
@@ -97,7 +131,7 @@ fn asked() -> Result<Asked, String> {
 }
 
 /// Every entry on seeded inputs, then records damaged byte by byte.
-fn inputs(random: &mut Random, count: usize, all: &mut Seen) -> Result<(), String> {
+fn inputs(random: &mut Random, count: usize, all: &mut All) -> Result<(), String> {
     for entry in &ENTRIES {
         run(entry.name, count * entry.share / 1000, all, || {
             compare::compare(random, entry)
@@ -113,27 +147,43 @@ fn inputs(random: &mut Random, count: usize, all: &mut Seen) -> Result<(), Strin
             seen.count(number);
         }
     }
-    seen.print("records byte by byte", all);
+    seen.print("records byte by byte", "terminal_next_key", all);
     Ok(())
+}
+
+/// Holds what the entries answered to the header's list: the same entries, and each its refusals.
+fn same_refusals(listed: &[Listed], all: &All, least: usize) -> Result<(), String> {
+    for entry in listed {
+        match all.get(entry.name.as_str()) {
+            Some(seen) => seen.agrees(entry, least)?,
+            None => return Err(format!("czg_{} of the header is not called", entry.name)),
+        }
+    }
+    match all
+        .keys()
+        .find(|name| listed.iter().all(|entry| entry.name != **name))
+    {
+        Some(name) => Err(format!("the header has no czg_{name}")),
+        None => Ok(()),
+    }
 }
 
 /// All of it.
 fn differential() -> Result<(), String> {
     let Asked { count, keys, seed } = asked()?;
     let start = Instant::now();
+    let listed = header::entries()?;
     let mut random = Random(seed);
-    let mut all = Seen::default();
+    let mut all = All::new();
     println!("seed {seed}");
     inputs(&mut random, count, &mut all)?;
+    let least = (count / PAIR_IN).max(1);
+    same_refusals(&listed, &all, least)?;
+    let pairs: usize = listed.iter().map(|entry| entry.refusals.len()).sum();
+    println!("header                   {pairs:>8} pairs of an entry and a refusal, each answered {least} times or more");
     let sampled = terminals::drain(&mut random, keys, SAMPLE)?;
     println!("drain                    {keys:>8} keys, each the host's; {sampled} compared with the second implementation");
-    for (number, times) in all.0.iter().enumerate() {
-        println!("number {number:>2} answered {times:>8} times");
-        if *times < count / 2000 {
-            return Err(format!("number {number} was reached too seldom"));
-        }
-    }
-    let inputs: usize = all.0.iter().sum();
+    let inputs: usize = all.values().flat_map(|seen| seen.0).sum();
     println!(
         "differential: ok, {inputs} inputs, {:.0} s",
         start.elapsed().as_secs_f64()

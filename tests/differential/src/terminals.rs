@@ -5,8 +5,9 @@ use crate::entries::counter;
 use crate::random::Random;
 use chizuregwo::{lent, Error};
 use second::bytes::hex;
-use second::dukpt::{self, NextKey, Record, RECORD_BYTES, REGISTERS};
-use second::numbers::{require, EXHAUSTED, ROOM};
+use second::dukpt::{self, Record, RECORD_BYTES, REGISTERS};
+use second::entries::terminal_next_key;
+use second::numbers::EXHAUSTED;
 
 /// Keys that a terminal gives.
 pub const ALL_KEYS: usize = 1_048_575;
@@ -48,7 +49,14 @@ const LAST_COUNTER: u32 = 0x1F_F800;
 fn permitted(random: &mut Random) -> u32 {
     let some = match random.below(8) {
         0 => random.one_of(&[
-            1, 0x3FF, 0x400, 0x7FE, 0x800, 0x1F_F000, LAST_COUNTER, 0x10_0000,
+            1,
+            0x3FF,
+            0x400,
+            0x7FE,
+            0x800,
+            0x1F_F000,
+            LAST_COUNTER,
+            0x10_0000,
         ]),
         1 => LAST_COUNTER >> random.below(12),
         _ => counter(random),
@@ -92,14 +100,6 @@ fn record_bytes(random: &mut Random) -> Vec<u8> {
     bytes
 }
 
-/// What the second implementation gives for a record's bytes and two buffers: 6, 11, 12, 13.
-fn second_next_key(record: &[u8], key_room: usize, serial_room: usize) -> Result<NextKey, u8> {
-    let record = dukpt::from_bytes(record)?;
-    let next = dukpt::terminal_next_key(&record, key_room)?;
-    require(serial_room >= 10, ROOM)?;
-    Ok(next)
-}
-
 /// One call for the next key through both, every byte of the three buffers compared; gives the number.
 fn compare_call(
     random: &mut Random,
@@ -107,7 +107,7 @@ fn compare_call(
     key_room: usize,
     serial_room: usize,
 ) -> Result<u8, String> {
-    let expected = second_next_key(bytes, key_room, serial_room);
+    let expected = terminal_next_key(bytes, key_room, serial_room);
     let mut record = Lent::new(random, bytes.len());
     record.start_with(bytes);
     let mut key = Lent::new(random, key_room);

@@ -1,0 +1,90 @@
+//! The refusals that chizuregwo.h lists with each entry: the last sentence of the comment before its declaration, as in
+//! `Refusals: 6 (key, block), 13.`, the details in brackets.
+
+/// The header's path.
+const PATH: &str = concat!(env!("CARGO_MANIFEST_DIR"), "/../../include/chizuregwo.h");
+
+/// An entry as the header has it: its name without `czg_`, and the refusals that it lists.
+pub struct Listed {
+    pub name: String,
+    pub refusals: Vec<u8>,
+}
+
+/// A number from 1 to 13 at the start of a text, with its details in brackets if it has any, and what stands after.
+fn refusal(text: &str) -> Option<(u8, &str)> {
+    let end = text.find(|c: char| !c.is_ascii_digit())?;
+    let number = text[..end].parse().ok().filter(|n| (1..=13).contains(n))?;
+    let rest = &text[end..];
+    match rest.strip_prefix(" (") {
+        None => Some((number, rest)),
+        Some(details) => Some((number, details.split_once(')')?.1)),
+    }
+}
+
+/// The numbers of a list `6 (key, block), 13.` that ends the text; each stands there once.
+fn refusals(text: &str) -> Option<Vec<u8>> {
+    let mut numbers = Vec::new();
+    let mut text = text;
+    loop {
+        let (number, rest) = refusal(text)?;
+        if numbers.contains(&number) {
+            return None;
+        }
+        numbers.push(number);
+        if rest == "." {
+            return Some(numbers);
+        }
+        text = rest.strip_prefix(", ")?;
+    }
+}
+
+/// The comment that ends a text, in one line, without its marks.
+fn comment(text: &str) -> Option<String> {
+    let (_, comment) = text.trim_end().strip_suffix("*/")?.rsplit_once("/*")?;
+    let lines = comment
+        .lines()
+        .map(|line| line.trim().trim_start_matches("* "));
+    Some(lines.collect::<Vec<_>>().join(" ").trim().to_string())
+}
+
+/// The entry whose name starts at a place of the header.
+fn listed(header: &str, place: usize) -> Result<Listed, String> {
+    let is_letter = |c: char| c.is_ascii_alphanumeric() || c == '_';
+    let name: String = header[place..]
+        .chars()
+        .take_while(|c| is_letter(*c))
+        .collect();
+    let before = header[..place].strip_suffix("\nczg_answer czg_");
+    let comment = before.and_then(comment);
+    let sentence = comment
+        .as_deref()
+        .and_then(|text| text.rsplit_once("Refusals: "));
+    match sentence.and_then(|(_, list)| refusals(list)) {
+        Some(refusals) => Ok(Listed { name, refusals }),
+        None => Err(format!(
+            "{PATH}: czg_{name}: no comment before it ends in a sentence `Refusals: 6 (key, block), 13.`"
+        )),
+    }
+}
+
+/// Every entry of a header: each name that starts with `czg_` and has a bracket after it.
+fn parsed(header: &str) -> Result<Vec<Listed>, String> {
+    let is_called = |place: usize| {
+        let name =
+            header[place..].trim_start_matches(|c: char| c.is_ascii_alphanumeric() || c == '_');
+        name.starts_with('(')
+    };
+    let places = header
+        .match_indices("czg_")
+        .map(|(place, prefix)| place + prefix.len());
+    places
+        .filter(|place| is_called(*place))
+        .map(|place| listed(header, place))
+        .collect()
+}
+
+/// Every entry of chizuregwo.h.
+pub fn entries() -> Result<Vec<Listed>, String> {
+    let header = std::fs::read_to_string(PATH).map_err(|error| format!("{PATH}: {error}"))?;
+    parsed(&header)
+}
