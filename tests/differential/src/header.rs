@@ -47,40 +47,39 @@ fn comment(text: &str) -> Option<String> {
     Some(lines.collect::<Vec<_>>().join(" ").trim().to_string())
 }
 
-/// The entry whose name starts at a place of the header.
+/// The name that starts a text: letters, digits and underscores.
+fn name(text: &str) -> &str {
+    let end = text.find(|c: char| !c.is_ascii_alphanumeric() && c != '_');
+    &text[..end.unwrap_or(text.len())]
+}
+
+/// The entry whose name starts at a place of the header, after `czg_`.
 fn listed(header: &str, place: usize) -> Result<Listed, String> {
-    let is_letter = |c: char| c.is_ascii_alphanumeric() || c == '_';
-    let name: String = header[place..]
-        .chars()
-        .take_while(|c| is_letter(*c))
-        .collect();
+    let name = name(&header[place..]);
     let before = header[..place].strip_suffix("\nczg_answer czg_");
-    let comment = before.and_then(comment);
-    let sentence = comment
-        .as_deref()
-        .and_then(|text| text.rsplit_once("Refusals: "));
-    match sentence.and_then(|(_, list)| refusals(list)) {
-        Some(refusals) => Ok(Listed { name, refusals }),
+    let comment = before.and_then(comment).unwrap_or_default();
+    let list = comment.rsplit_once("Refusals: ").map(|(_, list)| list);
+    match list.and_then(refusals) {
+        Some(refusals) => Ok(Listed {
+            name: name.to_string(),
+            refusals,
+        }),
         None => Err(format!(
-            "{PATH}: czg_{name}: no comment before it ends in a sentence `Refusals: 6 (key, block), 13.`"
+            "{PATH}: czg_{name}: the comment before it does not end as in `Refusals: 6 (key, block), 13.`"
         )),
     }
 }
 
 /// Every entry of a header: each name that starts with `czg_` and has a bracket after it.
 fn parsed(header: &str) -> Result<Vec<Listed>, String> {
-    let is_called = |place: usize| {
-        let name =
-            header[place..].trim_start_matches(|c: char| c.is_ascii_alphanumeric() || c == '_');
-        name.starts_with('(')
+    let is_called = |place: &usize| {
+        let text = &header[*place..];
+        text[name(text).len()..].starts_with('(')
     };
-    let places = header
-        .match_indices("czg_")
-        .map(|(place, prefix)| place + prefix.len());
-    places
-        .filter(|place| is_called(*place))
-        .map(|place| listed(header, place))
-        .collect()
+    let names = header.match_indices("czg_");
+    let places = names.map(|(place, prefix)| place + prefix.len());
+    let entries = places.filter(is_called);
+    entries.map(|place| listed(header, place)).collect()
 }
 
 /// Every entry of chizuregwo.h.

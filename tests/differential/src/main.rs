@@ -71,7 +71,7 @@ impl Seen {
             let is_listed = number == 0 || listed.refusals.contains(&(number as u8));
             if is_listed && *times < least {
                 return Err(format!(
-                    "czg_{name} answered {number} {times} times, where {least} are the least"
+                    "czg_{name} answered {number}, as the header has it, {times} times; {least} is the least"
                 ));
             }
             if !is_listed && *times > 0 {

@@ -49,14 +49,7 @@ const LAST_COUNTER: u32 = 0x1F_F800;
 fn permitted(random: &mut Random) -> u32 {
     let some = match random.below(8) {
         0 => random.one_of(&[
-            1,
-            0x3FF,
-            0x400,
-            0x7FE,
-            0x800,
-            0x1F_F000,
-            LAST_COUNTER,
-            0x10_0000,
+            1, 0x3FF, 0x400, 0x7FE, 0x800, 0x1F_F000, LAST_COUNTER, 0x10_0000,
         ]),
         1 => LAST_COUNTER >> random.below(12),
         _ => counter(random),
