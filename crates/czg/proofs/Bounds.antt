@@ -1,0 +1,37 @@
+-- What is written stays within the memory lent for it.
+use borrow.Author.Tests.{leb-true}
+use mathlib.Core.Path.{_≡_, refl, sym, ap, _∙_}
+use mathlib.Core.Bool.{Bool, true, false}
+use mathlib.Core.List.{List}
+use Prim.Native.Nat.{ℕ, zero, _+_, _≤_}
+use native.Mathlib.Nat.{le-trans, min-le-left}
+use native.Mathlib.Omega.{arith}
+use lib.Dec.{leb}
+use lib.ListN.{length, take, length-take}
+use Rattle.lent.specs.Choice.{pick}
+use Rattle.lent.specs.Appended.{Appended, fits}
+use Rattle.lent.specs.Result.{Result, done, refused, bytes, lend, Written}
+use Rattle.lent.proofs.Laws.{cases}
+
+lent-within : (room : ℕ) (answer : Result (List ℕ)) → length (bytes (lend room answer)) ≤ room
+lent-within room (refused n) = omega arith
+lent-within room (done v) =
+    cases (leb (length v) room) (λ h. rw h (leb-true (length v) room h)) (λ h. rw h (omega arith))
+
+-- an entry writes no more than there is room for
+pub written-within : {answer : Result (List ℕ)} {before after : List ℕ} {num len : ℕ} → Written answer before num len after → len ≤ length before
+written-within {answer} {before} w = rw (w .value) (lent-within (length before) answer)
+
+-- the same, of the memory afterwards
+pub within : {answer : Result (List ℕ)} {before after : List ℕ} {num len n : ℕ} → Written answer before num len after → length before ≤ n → len ≤ n
+within w h = omega (arith, written-within w)
+
+-- what lies within the first n bytes is at most n
+pub at-most : (n : ℕ) (s : List ℕ) {k : ℕ} → k ≤ length (take n s) → k ≤ n
+at-most n s h = le-trans h (rw (length-take n s) (min-le-left n (length s)))
+
+-- what is appended ends within the memory
+pub appended-within : {value before after : List ℕ} {n r : ℕ} → n ≤ length before → Appended value before after n r → r ≤ length before
+appended-within {value} {before} {after} {n} h a =
+    rw (a .end)
+    (cases (fits value before n) (λ f. rw f (leb-true (n + length value) (length before) f)) (λ f. rw f h))

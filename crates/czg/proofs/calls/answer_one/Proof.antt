@@ -1,0 +1,56 @@
+use mathlib.Core.Path.{sym}
+use lib.Seq.{length-take-le}
+use borrow.Author.Needs.{needs}
+use Rattle.czg.proofs.calls.answer_one.Statement.{statement}
+use Rattle.czg.proofs.calls.answer_one.Tie as tie
+use Rattle.czg.proofs.calls.answer_one.Reads as reads
+use Rattle.czg.proofs.calls.answer_one.Lts as lts
+use Rattle.czg.proofs.calls.call_with_room.Reads as call-with-room-reads
+use Rattle.czg.proofs.calls.is_text.Reads as is-text-reads
+use Rattle.czg.proofs.calls.put_answer.Reads as put-answer-reads
+use Rattle.io.proofs.buffer.Reads as buffer-reads
+
+buffer-requires : tie.Need-buffer-requires
+buffer-requires c κs = search needs
+
+slice-aggregate-call-with-room : tie.Need-slice-aggregate-call-with-room
+slice-aggregate-call-with-room c = search needs
+
+call-with-room-requires : tie.Need-call-with-room-requires
+call-with-room-requires c κs = search needs
+
+cast-length : tie.Need-cast-length
+cast-length c = search needs
+
+is-text-requires : tie.Need-is-text-requires
+is-text-requires c κs = search needs
+
+array-share-prefix-value : tie.Need-array-share-prefix-value
+array-share-prefix-value c = search needs
+
+slice-aggregate-put-answer : tie.Need-slice-aggregate-put-answer
+slice-aggregate-put-answer c = sym (length-take-le _ _ (search needs))
+
+put-answer-requires : tie.Need-put-answer-requires
+put-answer-requires c κs = search needs
+
+same-length : tie.Need-same-length
+same-length c = search needs
+
+returns : tie.Need-returns
+returns c = search needs
+
+pub answer-one-spec : {M : Type 1} → statement M
+answer-one-spec =
+    tie.close
+    (tie.spec
+    buffer-requires
+    slice-aggregate-call-with-room
+    call-with-room-requires
+    cast-length
+    is-text-requires
+    array-share-prefix-value
+    slice-aggregate-put-answer
+    put-answer-requires
+    same-length
+    returns)

@@ -1,0 +1,128 @@
+use native.Mathlib.Omega.{arith}
+use Rattle.czg.proofs.Bounds.{within}
+use borrow.Author.Needs.{needs}
+use Rattle.czg.proofs.calls.key_entry.Statement.{statement}
+use Rattle.czg.proofs.calls.key_entry.Tie as tie
+use Rattle.czg.proofs.calls.key_entry.Reads as reads
+use Rattle.czg.proofs.calls.key_entry.Lts as lts
+use Rattle.chizuregwo.proofs.cards.czg_arpc.Reads as czg-arpc-reads
+use Rattle.chizuregwo.proofs.cards.czg_arqc.Reads as czg-arqc-reads
+use Rattle.chizuregwo.proofs.cards.czg_card_key.Reads as czg-card-key-reads
+use Rattle.chizuregwo.proofs.cards.czg_derivation_data.Reads as czg-derivation-data-reads
+use Rattle.chizuregwo.proofs.cards.czg_session_key.Reads as czg-session-key-reads
+use Rattle.chizuregwo.proofs.hosts.czg_host_key.Reads as czg-host-key-reads
+use Rattle.chizuregwo.proofs.hosts.czg_initial_key.Reads as czg-initial-key-reads
+use Rattle.chizuregwo.proofs.terminals.czg_terminal_load.Reads as czg-terminal-load-reads
+
+cast-czg-derivation-data : tie.Need-cast-czg-derivation-data
+cast-czg-derivation-data c = search needs
+
+czg-derivation-data-requires : tie.Need-czg-derivation-data-requires
+czg-derivation-data-requires c κs = search needs
+
+cast-czg-card-key : tie.Need-cast-czg-card-key
+cast-czg-card-key c = search needs
+
+czg-card-key-requires : tie.Need-czg-card-key-requires
+czg-card-key-requires c κs = search needs
+
+cast-czg-session-key : tie.Need-cast-czg-session-key
+cast-czg-session-key c = search needs
+
+czg-session-key-requires : tie.Need-czg-session-key-requires
+czg-session-key-requires c κs = search needs
+
+czg-arqc-requires : tie.Need-czg-arqc-requires
+czg-arqc-requires c κs = search needs
+
+czg-arpc-requires : tie.Need-czg-arpc-requires
+czg-arpc-requires c κs = search needs
+
+czg-initial-key-requires : tie.Need-czg-initial-key-requires
+czg-initial-key-requires c κs = search needs
+
+czg-host-key-requires : tie.Need-czg-host-key-requires
+czg-host-key-requires c κs = search needs
+
+czg-terminal-load-requires : tie.Need-czg-terminal-load-requires
+czg-terminal-load-requires c κs = search needs
+
+same-length : tie.Need-same-length
+same-length c = search needs
+
+returns : tie.Need-returns
+returns c = within (c .before .before .czg-derivation-data .ensures) (omega arith)
+
+same-length-2 : tie.Need-same-length-2
+same-length-2 c = search needs
+
+returns-2 : tie.Need-returns-2
+returns-2 c = within (c .before .before .czg-card-key .ensures) (omega arith)
+
+same-length-3 : tie.Need-same-length-3
+same-length-3 c = search needs
+
+returns-3 : tie.Need-returns-3
+returns-3 c = within (c .before .before .czg-session-key .ensures) (omega arith)
+
+same-length-4 : tie.Need-same-length-4
+same-length-4 c = search needs
+
+returns-4 : tie.Need-returns-4
+returns-4 c = within (c .before .before .czg-arqc .ensures) (omega arith)
+
+same-length-5 : tie.Need-same-length-5
+same-length-5 c = search needs
+
+returns-5 : tie.Need-returns-5
+returns-5 c = within (c .before .before .czg-arpc .ensures) (omega arith)
+
+same-length-6 : tie.Need-same-length-6
+same-length-6 c = search needs
+
+returns-6 : tie.Need-returns-6
+returns-6 c = within (c .before .before .czg-initial-key .ensures) (omega arith)
+
+same-length-7 : tie.Need-same-length-7
+same-length-7 c = search needs
+
+returns-7 : tie.Need-returns-7
+returns-7 c = within (c .before .before .czg-host-key .ensures) (omega arith)
+
+same-length-8 : tie.Need-same-length-8
+same-length-8 c = search needs
+
+returns-8 : tie.Need-returns-8
+returns-8 c = within (c .before .before .czg-terminal-load .ensures) (omega arith)
+
+pub key-entry-spec : {M : Type 1} → statement M
+key-entry-spec =
+    tie.close
+    (tie.spec
+    cast-czg-derivation-data
+    czg-derivation-data-requires
+    cast-czg-card-key
+    czg-card-key-requires
+    cast-czg-session-key
+    czg-session-key-requires
+    czg-arqc-requires
+    czg-arpc-requires
+    czg-initial-key-requires
+    czg-host-key-requires
+    czg-terminal-load-requires
+    same-length
+    returns
+    same-length-2
+    returns-2
+    same-length-3
+    returns-3
+    same-length-4
+    returns-4
+    same-length-5
+    returns-5
+    same-length-6
+    returns-6
+    same-length-7
+    returns-7
+    same-length-8
+    returns-8)

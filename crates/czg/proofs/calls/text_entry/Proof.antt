@@ -1,0 +1,103 @@
+use native.Mathlib.Omega.{arith}
+use Rattle.czg.proofs.Bounds.{within}
+use borrow.Author.Needs.{needs}
+use Rattle.czg.proofs.calls.text_entry.Statement.{statement}
+use Rattle.czg.proofs.calls.text_entry.Tie as tie
+use Rattle.czg.proofs.calls.text_entry.Reads as reads
+use Rattle.czg.proofs.calls.text_entry.Lts as lts
+use Rattle.chizuregwo.proofs.ciphers.czg_decrypt.Reads as czg-decrypt-reads
+use Rattle.chizuregwo.proofs.ciphers.czg_encrypt.Reads as czg-encrypt-reads
+use Rattle.chizuregwo.proofs.messages.czg_clean.Reads as czg-clean-reads
+use Rattle.chizuregwo.proofs.messages.czg_key_entry.Reads as czg-key-entry-reads
+use Rattle.chizuregwo.proofs.messages.czg_message_mac.Reads as czg-message-mac-reads
+use Rattle.chizuregwo.proofs.messages.czg_message_text.Reads as czg-message-text-reads
+use Rattle.chizuregwo.proofs.messages.czg_text_mac.Reads as czg-text-mac-reads
+
+czg-encrypt-requires : tie.Need-czg-encrypt-requires
+czg-encrypt-requires c κs = search needs
+
+czg-decrypt-requires : tie.Need-czg-decrypt-requires
+czg-decrypt-requires c κs = search needs
+
+czg-key-entry-requires : tie.Need-czg-key-entry-requires
+czg-key-entry-requires c κs = search needs
+
+czg-clean-requires : tie.Need-czg-clean-requires
+czg-clean-requires c κs = search needs
+
+czg-message-text-requires : tie.Need-czg-message-text-requires
+czg-message-text-requires c κs = search needs
+
+czg-text-mac-requires : tie.Need-czg-text-mac-requires
+czg-text-mac-requires c κs = search needs
+
+czg-message-mac-requires : tie.Need-czg-message-mac-requires
+czg-message-mac-requires c κs = search needs
+
+same-length : tie.Need-same-length
+same-length c = search needs
+
+returns : tie.Need-returns
+returns c = within (c .before .before .czg-encrypt .ensures) (omega arith)
+
+same-length-2 : tie.Need-same-length-2
+same-length-2 c = search needs
+
+returns-2 : tie.Need-returns-2
+returns-2 c = within (c .before .before .czg-decrypt .ensures) (omega arith)
+
+same-length-3 : tie.Need-same-length-3
+same-length-3 c = search needs
+
+returns-3 : tie.Need-returns-3
+returns-3 c = within (c .before .before .czg-key-entry .ensures) (omega arith)
+
+same-length-4 : tie.Need-same-length-4
+same-length-4 c = search needs
+
+returns-4 : tie.Need-returns-4
+returns-4 c = within (c .before .before .czg-clean .ensures) (omega arith)
+
+same-length-5 : tie.Need-same-length-5
+same-length-5 c = search needs
+
+returns-5 : tie.Need-returns-5
+returns-5 c = within (c .before .before .czg-message-text .ensures) (omega arith)
+
+same-length-6 : tie.Need-same-length-6
+same-length-6 c = search needs
+
+returns-6 : tie.Need-returns-6
+returns-6 c = within (c .before .before .czg-text-mac .ensures) (omega arith)
+
+same-length-7 : tie.Need-same-length-7
+same-length-7 c = search needs
+
+returns-7 : tie.Need-returns-7
+returns-7 c = within (c .before .before .czg-message-mac .ensures) (omega arith)
+
+pub text-entry-spec : {M : Type 1} → statement M
+text-entry-spec =
+    tie.close
+    (tie.spec
+    czg-encrypt-requires
+    czg-decrypt-requires
+    czg-key-entry-requires
+    czg-clean-requires
+    czg-message-text-requires
+    czg-text-mac-requires
+    czg-message-mac-requires
+    same-length
+    returns
+    same-length-2
+    returns-2
+    same-length-3
+    returns-3
+    same-length-4
+    returns-4
+    same-length-5
+    returns-5
+    same-length-6
+    returns-6
+    same-length-7
+    returns-7)

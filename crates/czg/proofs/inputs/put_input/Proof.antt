@@ -1,0 +1,126 @@
+use Rattle.lent.proofs.Lists.{part-rest}
+use borrow.Author.Tests.{not-true, not-false}
+use mathlib.Core.Path.{_≡_, sym, _∙_}
+use Prim.Native.Nat.{_≤_}
+use lib.ListN.{length}
+use Rattle.czg.specs.Inputs.{hex, inputBytes}
+use Rattle.czg.proofs.Prefixes.{starts-length}
+use borrow.Author.Needs.{needs}
+use Rattle.czg.proofs.inputs.put_input.Statement.{statement}
+use Rattle.czg.proofs.inputs.put_input.Tie as tie
+use Rattle.czg.proofs.inputs.put_input.Reads as reads
+use Rattle.czg.proofs.inputs.put_input.Lts as lts
+use Rattle.czg.proofs.lines.is.Reads as is-reads
+use Rattle.czg.proofs.lines.starts.Reads as starts-reads
+use Rattle.keyentry.proofs.text_bytes.Reads as text-bytes-reads
+use Rattle.lent.proofs.lend.Reads as lend-reads
+
+slice-aggregate-is : tie.Need-slice-aggregate-is
+slice-aggregate-is c = search needs
+
+is-requires : tie.Need-is-requires
+is-requires c κs = search needs
+
+slice-aggregate-lend : tie.Need-slice-aggregate-lend
+slice-aggregate-lend c = search needs
+
+lend-requires : tie.Need-lend-requires
+lend-requires c κs = search needs
+
+same-length : tie.Need-same-length
+same-length c = search needs
+
+returns : tie.Need-returns
+unfolding inputBytes
+returns c =
+    let i = c .before .before .before .before .before .before in
+    simp (sym (i .is .ensures) ∙ c .before .before .before .before .before .if1 .taken) (c .before .before .lend .ensures)
+
+text-bytes-requires : tie.Need-text-bytes-requires
+text-bytes-requires c κs = search needs
+
+same-length-2 : tie.Need-same-length-2
+same-length-2 c = search needs
+
+returns-2 : tie.Need-returns-2
+unfolding inputBytes
+returns-2 c =
+    let i = c .before .before .before .before .before .before in
+    let k = i .before .before .before .before in
+    simp (sym (i .is .ensures) ∙ c .before .before .before .before .before .if1 .left, not-true (k .args .characters) (c .before .before .before .before .if2 .taken)) (c .before .before .text-bytes .ensures)
+
+slice-aggregate-starts : tie.Need-slice-aggregate-starts
+slice-aggregate-starts c = search needs
+
+starts-requires : tie.Need-starts-requires
+starts-requires c κs = search needs
+
+-- what starts with `hex:` has four characters
+four : (c : tie.Then3) → 4 ≤ length (c .before .before .before .before .before .before .before .before .before .args .part .now)
+four c =
+    let a = c .before .before .before .before .before .before .before .before .before .args in
+    starts-length hex (a .part .now) (sym (c .before .starts .ensures) ∙ c .if3 .taken)
+
+sub-text-bytes : tie.Need-sub-text-bytes
+sub-text-bytes c = four c
+
+part-text-bytes-start : tie.Need-part-text-bytes-start
+part-text-bytes-start c = four c
+
+part-text-bytes-end : tie.Need-part-text-bytes-end
+part-text-bytes-end c = search needs
+
+text-bytes-requires-2 : tie.Need-text-bytes-requires-2
+text-bytes-requires-2 c κs = search needs
+
+same-length-3 : tie.Need-same-length-3
+same-length-3 c = search needs
+
+returns-3 : tie.Need-returns-3
+unfolding inputBytes
+returns-3 c =
+    let s = c .before .before .before .before .before .before in
+    let i = s .before .before .before .before in
+    let k = i .before .before .before .before in
+    simp (sym (i .is .ensures) ∙ s .before .before .before .if1 .left, not-false (k .args .characters) (s .before .before .if2 .left), sym (s .starts .ensures) ∙ c .before .before .before .before .before .if3 .taken)
+    (rw part-rest at (c .before .before .text-bytes2 .ensures))
+
+lend-requires-2 : tie.Need-lend-requires-2
+lend-requires-2 c κs = search needs
+
+same-length-4 : tie.Need-same-length-4
+same-length-4 c = search needs
+
+returns-4 : tie.Need-returns-4
+unfolding inputBytes
+returns-4 c =
+    let s = c .before .before .before .before .before in
+    let i = s .before .before .before .before in
+    let k = i .before .before .before .before in
+    simp (sym (i .is .ensures) ∙ s .before .before .before .if1 .left, not-false (k .args .characters) (s .before .before .if2 .left), sym (s .starts .ensures) ∙ c .before .before .before .before .if3 .left)
+    (c .before .before .lend2 .ensures)
+
+pub put-input-spec : {M : Type 1} → statement M
+put-input-spec =
+    tie.close
+    (tie.spec
+    slice-aggregate-is
+    is-requires
+    slice-aggregate-lend
+    lend-requires
+    same-length
+    returns
+    text-bytes-requires
+    same-length-2
+    returns-2
+    slice-aggregate-starts
+    starts-requires
+    sub-text-bytes
+    part-text-bytes-start
+    part-text-bytes-end
+    text-bytes-requires-2
+    same-length-3
+    returns-3
+    lend-requires-2
+    same-length-4
+    returns-4)

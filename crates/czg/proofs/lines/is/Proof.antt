@@ -1,0 +1,22 @@
+use borrow.Author.Tests.{eq-eqb, ne-eqb}
+use Rattle.czg.specs.Inputs.{same}
+use borrow.Author.Needs.{needs}
+use Rattle.czg.proofs.lines.is.Statement.{statement}
+use Rattle.czg.proofs.lines.is.Tie as tie
+use Rattle.czg.proofs.lines.is.Reads as reads
+use Rattle.czg.proofs.lines.is.Lts as lts
+use Rattle.czg.proofs.lines.starts.Reads as starts-reads
+
+returns : tie.Need-returns
+unfolding same
+returns c = simp (ne-eqb _ _ (c .if1 .taken))
+
+starts-requires : tie.Need-starts-requires
+starts-requires c κs = search needs
+
+returns-2 : tie.Need-returns-2
+unfolding same
+returns-2 c = simp (eq-eqb _ _ (c .before .if1 .left)) (c .starts .ensures)
+
+pub is-spec : {M : Type 1} → statement M
+is-spec = tie.close (tie.spec returns starts-requires returns-2)

@@ -1,0 +1,72 @@
+use mathlib.Core.Path.{_≡_, refl, sym, _∙_}
+use Prim.Native.Nat.{_≤_, _-_}
+use native.Mathlib.Omega.{arith}
+use lib.ListN.{length, drop}
+use Rattle.czg.specs.Inputs.{startsWith}
+use Rattle.czg.proofs.Prefixes.{found, too-short, differs, goes-on}
+use borrow.Author.Needs.{needs}
+use Rattle.czg.proofs.lines.starts.Statement.{statement}
+use Rattle.czg.proofs.lines.starts.Tie as tie
+use Rattle.czg.proofs.lines.starts.Reads as reads
+use Rattle.czg.proofs.lines.starts.Lts as lts
+
+abbrev Inv-loop : tie.InvT-loop
+Inv-loop line text i₀ i = (i ≤ length text) × (startsWith (drop i text) (drop i line) ≡ startsWith text line)
+
+abbrev μ-loop : tie.MeasureT-loop
+μ-loop line text i₀ i = length text - i
+
+loop-holds : tie.Need-loop-holds Inv-loop μ-loop
+loop-holds c = (omega arith, refl)
+
+returns : tie.Need-returns Inv-loop μ-loop
+returns c =
+    let a = c .before .before .before .args in
+    let l = c .before .before .loop in
+    sym (too-short (a .text .now) (a .line .now) (l .i) (omega arith) (omega arith)) ∙ l .inv .1
+
+shared-slice-read-if2 : tie.Need-shared-slice-read-if2 Inv-loop μ-loop
+shared-slice-read-if2 c = search needs
+
+shared-slice-read-if2-2 : tie.Need-shared-slice-read-if2-2 Inv-loop μ-loop
+shared-slice-read-if2-2 c = search needs
+
+returns-2 : tie.Need-returns-2 Inv-loop μ-loop
+returns-2 c =
+    let a = c .before .before .before .before .before .before .args in
+    let l = c .before .before .before .before .before .loop in
+    sym (differs (a .text .now) (a .line .now) (l .i) (omega arith) (omega arith) (c .if2 .taken)) ∙ l .inv .1
+
+add-i : tie.Need-add-i Inv-loop μ-loop
+add-i c = search needs
+
+loop-less : tie.Need-loop-less Inv-loop μ-loop
+loop-less c = search needs
+
+loop-again : tie.Need-loop-again Inv-loop μ-loop
+loop-again c =
+    let a = c .before .before .before .before .before .before .args in
+    let l = c .before .before .before .before .before .loop in
+    (omega arith, sym (goes-on (a .text .now) (a .line .now) (l .i) (omega arith) (omega arith) (c .if2 .left)) ∙ l .inv .1)
+
+returns-3 : tie.Need-returns-3 Inv-loop μ-loop
+returns-3 c =
+    let a = c .before .before .args in
+    let l = c .before .loop in
+    sym (found (a .text .now) (a .line .now) (l .i) (omega arith)) ∙ l .inv .1
+
+pub starts-spec : {M : Type 1} → statement M
+starts-spec =
+    tie.close
+    (tie.spec
+    Inv-loop
+    μ-loop
+    loop-holds
+    returns
+    shared-slice-read-if2
+    shared-slice-read-if2-2
+    returns-2
+    add-i
+    loop-less
+    loop-again
+    returns-3)

@@ -1,0 +1,20 @@
+use mathlib.Core.Path.{sym}
+use lib.Seq.{length-take-le}
+use borrow.Author.Needs.{needs}
+use Rattle.czg.proofs.requests.name_of.Statement.{statement}
+use Rattle.czg.proofs.requests.name_of.Tie as tie
+use Rattle.czg.proofs.requests.name_of.Reads as reads
+use Rattle.czg.proofs.requests.name_of.Lts as lts
+use Rattle.czg.proofs.lines.find.Reads as find-reads
+
+find-requires : tie.Need-find-requires
+find-requires c κs = search needs
+
+slice-aggregate-result : tie.Need-slice-aggregate-result
+slice-aggregate-result c = sym (length-take-le _ _ (search needs))
+
+returns : tie.Need-returns
+returns c = search needs
+
+pub name-of-spec : {M : Type 1} → statement M
+name-of-spec = tie.close (tie.spec find-requires slice-aggregate-result returns)

@@ -1,0 +1,85 @@
+// The lines of the answers, one behind the other in a buffer.
+use crate::faults::MISSING;
+use crate::faults::NOT_A_NUMBER;
+use crate::faults::NOT_BYTES;
+use crate::faults::NO_NAME;
+use crate::faults::NO_ROOM;
+use crate::faults::TOO_MANY;
+ghost use Prim.Native.Nat.{_≤_};
+ghost use lib.ListN.{length};
+
+// Puts a text behind the first n bytes.
+pub(crate) fn put(out: &mut [u8], n: usize, text: &[u8]) -> usize
+    requires { ⌜ n ≤ length (now out) ⌝ }
+    ensures { λ r. ⌜ r ≤ length (now (out .exit)) ⌝ }
+{
+    lent::append(out, n, text)
+}
+
+// Puts the hexadecimal digits of bytes, in capitals.
+fn put_digits(out: &mut [u8], n: usize, value: &[u8]) -> usize
+    requires { ⌜ n ≤ length (now out) ⌝ }
+    ensures { λ r. ⌜ r ≤ length (now (out .exit)) ⌝ }
+{
+    let mut k = n;
+    let mut i: usize = 0;
+    while i < value.len() {
+        let digits = keyentry::byte_text(value[i]);
+        k = put(out, k, &digits);
+        i += 1;
+    }
+    k
+}
+
+// Puts a space and a value: as it is where it is a text, else in hexadecimal; a hyphen where it has no bytes.
+pub(crate) fn put_value(out: &mut [u8], n: usize, text: bool, value: &[u8]) -> usize
+    requires { ⌜ n ≤ length (now out) ⌝ }
+    ensures { λ r. ⌜ r ≤ length (now (out .exit)) ⌝ }
+{
+    let k = put(out, n, b" ");
+    if value.len() == 0 {
+        return put(out, k, b"-");
+    }
+    if text {
+        return put(out, k, value);
+    }
+    put_digits(out, k, value)
+}
+
+// Puts the line of a refusal.
+pub(crate) fn put_refused(out: &mut [u8], n: usize, number: u32) -> usize
+    requires { ⌜ n ≤ length (now out) ⌝ }
+    ensures { λ r. ⌜ r ≤ length (now (out .exit)) ⌝ }
+{
+    let k = put(out, n, b"refused ");
+    let mut digits = [0u8; 20];
+    let count = io::decimal(number as u64, &mut digits);
+    let m = put(out, k, &digits[..count]);
+    put(out, m, b"\n")
+}
+
+// Puts why a line is no request.
+fn put_reason(out: &mut [u8], n: usize, fault: u8) -> usize
+    requires { ⌜ n ≤ length (now out) ⌝ }
+    ensures { λ r. ⌜ r ≤ length (now (out .exit)) ⌝ }
+{
+    match fault {
+        NO_NAME => put(out, n, b"no such request; help lists them"),
+        NO_ROOM => put(out, n, b"the room is no number up to 1024"),
+        MISSING => put(out, n, b"an input is missing"),
+        TOO_MANY => put(out, n, b"too many inputs"),
+        NOT_BYTES => put(out, n, b"an input is not hexadecimal bytes"),
+        NOT_A_NUMBER => put(out, n, b"a number is not decimal, or too large"),
+        _ => put(out, n, b"the line is longer than 16384 bytes"),
+    }
+}
+
+// Puts the line of what is no request.
+pub(crate) fn put_unknown(out: &mut [u8], n: usize, fault: u8) -> usize
+    requires { ⌜ n ≤ length (now out) ⌝ }
+    ensures { λ r. ⌜ r ≤ length (now (out .exit)) ⌝ }
+{
+    let k = put(out, n, b"unknown ");
+    let m = put_reason(out, k, fault);
+    put(out, m, b"\n")
+}

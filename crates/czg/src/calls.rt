@@ -1,0 +1,198 @@
+// The calls of the entries. A request's place is that of its line in the table.
+use crate::answers::put;
+use crate::answers::put_refused;
+use crate::answers::put_value;
+use crate::inputs::Inputs;
+use crate::requests::Rooms;
+use chizuregwo::answers::Answer;
+use chizuregwo::cards;
+use chizuregwo::ciphers;
+use chizuregwo::hosts;
+use chizuregwo::messages;
+use chizuregwo::pins;
+use chizuregwo::terminals;
+ghost use Prim.Native.Nat.{_≤_};
+ghost use lib.ListN.{length};
+ghost use Rattle.czg.specs.Private.{Within};
+
+// The place of `terminal-next-key`, which has two values and a record to be changed.
+pub(crate) const NEXT_KEY: usize = 23;
+
+// The cipher, key entry, texts and MACs.
+fn text_entry(place: usize, a: &[u8], b: &[u8], x: u64, out: &mut [u8]) -> Answer
+    ensures { λ r. ⌜ r .length ≤ length (now (out .exit)) ⌝ }
+{
+    match place {
+        0 => ciphers::czg_encrypt(a, b, out),
+        1 => ciphers::czg_decrypt(a, b, out),
+        2 => messages::czg_key_entry(a, x as usize, out),
+        3 => messages::czg_clean(a, out),
+        4 => messages::czg_message_text(a, out),
+        5 => messages::czg_text_mac(a, b, out),
+        _ => messages::czg_message_mac(a, b, out),
+    }
+}
+
+// PIN blocks.
+fn pin_entry(place: usize, a: &[u8], b: &[u8], c: &[u8], out: &mut [u8]) -> Answer
+    ensures { λ r. ⌜ r .length ≤ length (now (out .exit)) ⌝ }
+{
+    match place {
+        7 => pins::czg_pin_make(a, out),
+        8 => pins::czg_pin_make_with_card(a, b, out),
+        9 => pins::czg_pin_read(a, out),
+        10 => pins::czg_pin_read_with_card(a, b, out),
+        11 => pins::czg_pin_encipher(a, b, out),
+        12 => pins::czg_pin_encipher_with_card(a, b, c, out),
+        13 => pins::czg_pin_decipher(a, b, out),
+        _ => pins::czg_pin_decipher_with_card(a, b, c, out),
+    }
+}
+
+// A card's keys and cryptograms; the host's derivations; the loading of a terminal.
+fn key_entry(place: usize, a: &[u8], b: &[u8], c: &[u8], x: u64, out: &mut [u8]) -> Answer
+    ensures { λ r. ⌜ r .length ≤ length (now (out .exit)) ⌝ }
+{
+    match place {
+        15 => cards::czg_derivation_data(a, (x % 4294967296) as u32, out),
+        16 => cards::czg_card_key(a, b, (x % 4294967296) as u32, out),
+        17 => cards::czg_session_key(a, (x % 65536) as u16, out),
+        18 => cards::czg_arqc(a, b, out),
+        19 => cards::czg_arpc(a, b, c, out),
+        20 => hosts::czg_initial_key(a, b, out),
+        21 => hosts::czg_host_key(a, b, out),
+        _ => terminals::czg_terminal_load(a, b, out),
+    }
+}
+
+// Calls an entry that writes one value.
+fn call(place: usize, a: &[u8], b: &[u8], c: &[u8], x: u64, out: &mut [u8]) -> Answer
+    ensures { λ r. ⌜ r .length ≤ length (now (out .exit)) ⌝ }
+{
+    if place < 7 {
+        return text_entry(place, a, b, x, out);
+    }
+    if place < 15 {
+        return pin_entry(place, a, b, c, out);
+    }
+    key_entry(place, a, b, c, x, out)
+}
+
+// Whether an entry's value is a text or the digits of a PIN.
+fn is_text(place: usize) -> bool {
+    match place {
+        3 | 4 | 9 | 10 | 13 | 14 => true,
+        _ => false,
+    }
+}
+
+// Puts the line of an answer with one value.
+fn put_answer(out: &mut [u8], n: usize, text: bool, number: u32, value: &[u8]) -> usize
+    requires { ⌜ n ≤ length (now out) ⌝ }
+    ensures { λ r. ⌜ r ≤ length (now (out .exit)) ⌝ }
+{
+    if number != 0 {
+        return put_refused(out, n, number);
+    }
+    let k = put(out, n, b"done");
+    let m = put_value(out, k, text, value);
+    put(out, m, b"\n")
+}
+
+// Calls an entry that writes one value, with so much room lent to it.
+fn call_with_room(place: usize, i: Inputs, room: usize, bytes: &[u8], value: &mut [u8]) -> Answer
+    requires { ⌜ Within i (length (now bytes)) ⌝ }
+    requires { ⌜ room ≤ length (now value) ⌝ }
+    ensures { λ r. ⌜ r .length ≤ length (now (value .exit)) ⌝ }
+{
+    let first = i.first;
+    let second = i.second;
+    let end = i.end;
+    call(
+        place,
+        &bytes[..first],
+        &bytes[first..second],
+        &bytes[second..end],
+        i.number,
+        &mut value[..room],
+    )
+}
+
+// Answers a request with one value.
+fn answer_one(
+    place: usize,
+    i: Inputs,
+    room: usize,
+    bytes: &[u8],
+    out: &mut [u8],
+    n: usize,
+) -> usize
+    requires { ⌜ Within i (length (now bytes)) ⌝ }
+    requires { ⌜ room ≤ 1024 ⌝ }
+    requires { ⌜ n ≤ length (now out) ⌝ }
+    ensures { λ r. ⌜ r ≤ length (now (out .exit)) ⌝ }
+{
+    let mut value = io::buffer();
+    let answer = call_with_room(place, i, room, bytes, &mut value);
+    let length = answer.length as usize;
+    put_answer(out, n, is_text(place), answer.number, &value[..length])
+}
+
+// Calls for a terminal's next key, with so much room lent for the key and for the serial number.
+fn next_key(record: &mut [u8], rooms: Rooms, key: &mut [u8], serial: &mut [u8]) -> u32
+    requires { ⌜ (rooms .first ≤ length (now key)) × (rooms .second ≤ length (now serial)) ⌝ }
+{
+    let first = rooms.first;
+    let second = rooms.second;
+    let answer = terminals::czg_terminal_next_key(record, &mut key[..first], &mut serial[..second]);
+    answer.number
+}
+
+// Puts the line of a key, its serial number and the record after it.
+fn put_next_key(out: &mut [u8], n: usize, key: &[u8], serial: &[u8], record: &[u8]) -> usize
+    requires { ⌜ (8 ≤ length (now key)) × (10 ≤ length (now serial)) ⌝ }
+    requires { ⌜ n ≤ length (now out) ⌝ }
+    ensures { λ r. ⌜ r ≤ length (now (out .exit)) ⌝ }
+{
+    let k = put(out, n, b"done");
+    let m = put_value(out, k, false, &key[..8]);
+    let j = put_value(out, m, false, &serial[..10]);
+    let e = put_value(out, j, false, record);
+    put(out, e, b"\n")
+}
+
+// Answers a request for a terminal's next key.
+fn answer_next_key(record: &mut [u8], rooms: Rooms, out: &mut [u8], n: usize) -> usize
+    requires { ⌜ (rooms .first ≤ 1024) × (rooms .second ≤ 1024) ⌝ }
+    requires { ⌜ n ≤ length (now out) ⌝ }
+    ensures { λ r. ⌜ r ≤ length (now (out .exit)) ⌝ }
+{
+    let mut key = io::buffer();
+    let mut serial = io::buffer();
+    let number = next_key(record, rooms, &mut key, &mut serial);
+    if number != 0 {
+        return put_refused(out, n, number);
+    }
+    put_next_key(out, n, &key, &serial, record)
+}
+
+// Answers a request whose inputs were read.
+pub(crate) fn answer(
+    place: usize,
+    i: Inputs,
+    rooms: Rooms,
+    bytes: &mut [u8],
+    out: &mut [u8],
+    n: usize,
+) -> usize
+    requires { ⌜ Within i (length (now bytes)) ⌝ }
+    requires { ⌜ (rooms .first ≤ 1024) × (rooms .second ≤ 1024) ⌝ }
+    requires { ⌜ n ≤ length (now out) ⌝ }
+    ensures { λ r. ⌜ r ≤ length (now (out .exit)) ⌝ }
+{
+    if place == NEXT_KEY {
+        let end = i.end;
+        return answer_next_key(&mut bytes[..end], rooms, out, n);
+    }
+    answer_one(place, i, rooms.first, bytes, out, n)
+}
