@@ -4,6 +4,7 @@ mod arguments;
 mod input;
 mod output;
 
+pub use arguments::answers_arguments;
 pub use arguments::asks_for_help;
 pub use input::Input;
 pub use input::read_full;

@@ -1,5 +1,4 @@
 // One terminal from loading to exhaustion, each key compared with the host's (source document 002's derivation key and serial number).
-use libc::STDOUT_FILENO;
 use terminal::Terminal;
 
 // What was seen of the keys so far.
@@ -13,35 +12,49 @@ struct Seen {
     checksum: u64,
 }
 
-// Writes a text.
-fn text(s: &[u8]) {
-    io::write_all(STDOUT_FILENO, s);
+// Writes a text, and gives whether all of it was written.
+fn text(s: &[u8]) -> bool {
+    console::write(b"drain", s) == s.len()
 }
 
 // Writes the hexadecimal digits of bytes.
-fn digits(s: &[u8]) {
+fn digits(s: &[u8]) -> bool {
     let mut i: usize = 0;
     while i < s.len() {
-        text(&keyentry::byte_text(s[i]));
+        if !text(&keyentry::byte_text(s[i])) {
+            return false;
+        }
         i += 1;
     }
+    true
+}
+
+// Writes a number in decimal.
+fn number(n: u64) -> bool {
+    let mut room = [0u8; 20];
+    let k = io::decimal(n, &mut room);
+    text(&room[..k])
 }
 
 // Writes a line: what it is, and a number.
-fn count_line(what: &[u8], n: u64) {
-    text(what);
-    io::print_decimal(STDOUT_FILENO, n);
-    text(b"\n");
+fn count_line(what: &[u8], n: u64) -> bool {
+    text(what) && number(n) && text(b"\n")
+}
+
+// Writes a line: what it is, and a key.
+fn word_line(what: &[u8], key: u64) -> bool {
+    text(what) && digits(&lent::bytes_of(key)) && text(b"\n")
 }
 
 // Writes a line: what it is, a key, and its counter in hexadecimal.
-fn key_line(what: &[u8], key: u64, counter: u32) {
-    text(what);
-    digits(&lent::bytes_of(key));
-    text(b" counter ");
+fn key_line(what: &[u8], key: u64, counter: u32) -> bool {
     let x = counter % 0x1000000;
-    digits(&[(x / 65536) as u8, (x / 256 % 256) as u8, (x % 256) as u8]);
-    text(b"\n");
+    let shown = [(x / 65536) as u8, (x / 256 % 256) as u8, (x % 256) as u8];
+    text(what)
+        && digits(&lent::bytes_of(key))
+        && text(b" counter ")
+        && digits(&shown)
+        && text(b"\n")
 }
 
 // The checksum with one key more: rotated by one bit, exclusive-or the key.
@@ -77,16 +90,14 @@ fn host_word(derivation: &[u8], serial: [u8; 10]) -> u64 {
     lent::word_of(&answer.value)
 }
 
-// Writes what was seen, and how the call after the last key was answered.
-fn report(seen: Seen, number: u8) {
-    count_line(b"keys ", seen.keys);
-    count_line(b"differed from the host ", seen.differed);
-    key_line(b"first ", seen.first, seen.first_counter);
-    key_line(b"last ", seen.last, seen.last_counter);
-    text(b"checksum ");
-    digits(&lent::bytes_of(seen.checksum));
-    text(b"\n");
-    count_line(b"then refused ", number as u64);
+// Writes what was seen, and how the call after the last key was answered, up to the first write that fails.
+fn report(seen: Seen, number: u8) -> bool {
+    count_line(b"keys ", seen.keys)
+        && count_line(b"differed from the host ", seen.differed)
+        && key_line(b"first ", seen.first, seen.first_counter)
+        && key_line(b"last ", seen.last, seen.last_counter)
+        && word_line(b"checksum ", seen.checksum)
+        && count_line(b"then refused ", number as u64)
 }
 
 // Takes every key of a terminal, at most 1,048,576 calls.
@@ -123,7 +134,23 @@ fn drained(derivation: &[u8], loaded: Terminal) {
     text(b"the terminal does not end\n");
 }
 
+// Whether the program was asked for something else than its work.
+fn asked() -> bool {
+    console::answers_arguments(
+        b"drain",
+        b"usage: drain   (drain --help says more)\n",
+        b"usage: drain
+Reads nothing. Loads one terminal, takes every key it has and compares each with the host's; this takes half a minute.
+Writes how many keys there were and how many differed, the first and the last key with their counters, a checksum of all,
+and the number with which the call after the last key was refused.
+",
+    )
+}
+
 fn main() {
+    if asked() {
+        return;
+    }
     let derivation = b"\x51\x52\x54\x57\x58\x5B\x5D\x5E\x61\x62\x64\x67\x68\x6B\x6D\x6E";
     let serial = b"\x01\x23\x45\x67\x89\xAB\xCD\xF0\x00\x01";
     let initial = host::initial_key(derivation, serial);

@@ -2,14 +2,32 @@
 // capital hexadecimal digits on the next; or `refused` and the number (01, The job and its edge).
 mod output;
 
-use libc::STDIN_FILENO;
-use libc::STDOUT_FILENO;
+// Whether the program was asked for something else than its work.
+fn asked() -> bool {
+    console::answers_arguments(
+        b"messagemac",
+        b"usage: messagemac <FILE   (messagemac --help says more)\n",
+        b"usage: messagemac <FILE
+Reads eight bytes of MAC key and then one message from standard input.
+Writes the message's MAC text on one line and its MAC, sixteen hexadecimal digits, on the next;
+or `refused` and a number, whose meaning stands in include/chizuregwo.h.
+example: messagemac <examples/sale.bin
+",
+    )
+}
 
 fn main() {
+    if asked() {
+        return;
+    }
     // one byte more than a key and the longest message
     let mut input = [0u8; 4105];
-    let n = io::read_full(STDIN_FILENO, &mut input);
+    let read = console::read_full(b"messagemac", &mut input);
+    if read.failed {
+        return;
+    }
+    let n = read.count;
     let mut out = [0u8; 184];
     let made = output::output(&input[..n], &mut out);
-    io::write_all(STDOUT_FILENO, &out[..made]);
+    console::write(b"messagemac", &out[..made]);
 }

@@ -26,6 +26,9 @@ slice-aggregate-text c = search needs
 text-requires : tie.Need-text-requires Inv-loop μ-loop
 text-requires c κs = search needs
 
+returns : tie.Need-returns Inv-loop μ-loop
+returns c = search needs
+
 add-i : tie.Need-add-i Inv-loop μ-loop
 add-i c = search needs
 
@@ -35,8 +38,8 @@ loop-less c = search needs
 loop-again : tie.Need-loop-again Inv-loop μ-loop
 loop-again c = search needs
 
-returns : tie.Need-returns Inv-loop μ-loop
-returns c = search needs
+returns-2 : tie.Need-returns-2 Inv-loop μ-loop
+returns-2 c = search needs
 
 pub digits-spec : {M : Type 1} → statement M
 digits-spec =
@@ -49,7 +52,8 @@ digits-spec =
     byte-text-requires
     slice-aggregate-text
     text-requires
+    returns
     add-i
     loop-less
     loop-again
-    returns)
+    returns-2)
