@@ -1,22 +1,34 @@
 #!/usr/bin/env python3
 """PIN blocks and a terminal's first keys through build/libchizuregwo.so (make shared), by ctypes alone.
 
-    examples/pin.py [PIN [CARD]]
+PIN (1234 if not given) and CARD, a card number (4219876543210987), are digits. Writes the clear and the enciphered PIN block, the PIN read back, and
+three keys of a terminal beside the host's.
 """
 import ctypes
 import pathlib
 import sys
 
 CZG_DONE, CZG_RECORD_SIZE = 0, 187
+USAGE = "usage: examples/pin.py [PIN [CARD]]   (make shared first)"
+LIBRARY = pathlib.Path(__file__).resolve().parent.parent / "build" / "libchizuregwo.so"
+
+if sys.argv[1:] in (["-h"], ["--help"]):
+    print(USAGE, __doc__.strip(), sep="\n")
+    sys.exit(0)
+if len(sys.argv) > 3:
+    print(USAGE, file=sys.stderr)
+    sys.exit(2)
+try:
+    library = ctypes.CDLL(str(LIBRARY))
+except OSError:
+    print(USAGE, "pin.py: build/libchizuregwo.so is missing, or it cannot be loaded: run make shared", sep="\n", file=sys.stderr)
+    sys.exit(1)
 
 
 class Answer(ctypes.Structure):
     """What every entry answers."""
 
     _fields_ = [("number", ctypes.c_uint32), ("length", ctypes.c_uint32)]
-
-
-library = ctypes.CDLL(str(pathlib.Path(__file__).resolve().parent.parent / "build" / "libchizuregwo.so"))
 
 
 def call(entry, *inputs, room):
