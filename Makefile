@@ -34,9 +34,9 @@ lib: $(archive) $(header)
 shared: lib $(shared)
 czg: $(program)
 
-# The old file goes first, so that none is left where a proof fails.
+# The old files go first, so that none is left where a proof fails.
 $(archive): $(proved)
-	rm -f $@
+	rm -f $@ $(shared)
 	$(RT) staticlib chizuregwo
 	mkdir -p build
 	cp target/staticlib/libchizuregwo.a $@
