@@ -39,10 +39,7 @@ pub fn read_full(who: &[u8], buf: &mut [u8]) -> Input
     while done < buf.len() {
         let got = read_some(who, &mut buf[done..]);
         if got.failed {
-            return Input {
-                count: 0,
-                failed: true,
-            };
+            return got;
         }
         if got.count == 0 {
             break;

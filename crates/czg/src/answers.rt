@@ -1,9 +1,9 @@
 // The lines of the answers, one behind the other in a buffer.
 use crate::faults::MISSING;
-use crate::faults::NOT_A_NUMBER;
-use crate::faults::NOT_BYTES;
 use crate::faults::NO_NAME;
 use crate::faults::NO_ROOM;
+use crate::faults::NOT_A_NUMBER;
+use crate::faults::NOT_BYTES;
 use crate::faults::TOO_MANY;
 ghost use Prim.Native.Nat.{_≤_};
 ghost use lib.ListN.{length};

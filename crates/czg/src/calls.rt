@@ -119,14 +119,7 @@ fn call_with_room(place: usize, i: Inputs, room: usize, bytes: &[u8], value: &mu
 }
 
 // Answers a request with one value.
-fn answer_one(
-    place: usize,
-    i: Inputs,
-    room: usize,
-    bytes: &[u8],
-    out: &mut [u8],
-    n: usize,
-) -> usize
+fn answer_one(place: usize, i: Inputs, room: usize, bytes: &[u8], out: &mut [u8], n: usize) -> usize
     requires { ⌜ Within i (length (now bytes)) ⌝ }
     requires { ⌜ room ≤ 1024 ⌝ }
     requires { ⌜ n ≤ length (now out) ⌝ }

@@ -47,7 +47,13 @@ fn answer_request(table: &[u8], line: &[u8], bytes: &mut [u8], out: &mut [u8], n
 }
 
 // Answers a line: nothing for an empty one and for a comment.
-pub(crate) fn answer_line(table: &[u8], line: &[u8], bytes: &mut [u8], out: &mut [u8], n: usize) -> usize
+pub(crate) fn answer_line(
+    table: &[u8],
+    line: &[u8],
+    bytes: &mut [u8],
+    out: &mut [u8],
+    n: usize,
+) -> usize
     requires { ⌜ n ≤ length (now out) ⌝ }
     ensures { λ r. ⌜ r ≤ length (now (out .exit)) ⌝ }
 {
@@ -107,7 +113,14 @@ pub(crate) struct Served {
 }
 
 // Answers a line that is not the rest of one that was too long.
-fn answered(table: &[u8], line: &[u8], rest: bool, bytes: &mut [u8], out: &mut [u8], n: usize) -> usize
+fn answered(
+    table: &[u8],
+    line: &[u8],
+    rest: bool,
+    bytes: &mut [u8],
+    out: &mut [u8],
+    n: usize,
+) -> usize
     requires { ⌜ n ≤ length (now out) ⌝ }
     ensures { λ r. ⌜ r ≤ length (now (out .exit)) ⌝ }
 {
@@ -118,7 +131,13 @@ fn answered(table: &[u8], line: &[u8], rest: bool, bytes: &mut [u8], out: &mut [
 }
 
 // Answers every whole line of a part of the input and writes the answers. The rest of a line that was too long has its answer.
-pub(crate) fn serve(table: &[u8], input: &[u8], passing: bool, bytes: &mut [u8], out: &mut [u8]) -> Served
+pub(crate) fn serve(
+    table: &[u8],
+    input: &[u8],
+    passing: bool,
+    bytes: &mut [u8],
+    out: &mut [u8],
+) -> Served
     ensures { λ r. ⌜ r .at ≤ length (now (input .entry)) ⌝ }
 {
     let mut at: usize = 0;

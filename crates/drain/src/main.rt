@@ -136,7 +136,11 @@ fn drained(derivation: &[u8], loaded: Terminal) {
 
 // Whether the program was asked for something else than its work.
 fn asked() -> bool {
+    let mut argument = [0u8; 8];
+    let n = os::arg(1, &mut argument);
     console::answers_arguments(
+        os::arg_count(),
+        &argument[..n],
         b"drain",
         b"usage: drain   (drain --help says more)\n",
         b"usage: drain

@@ -4,7 +4,11 @@ mod output;
 
 // Whether the program was asked for something else than its work.
 fn asked() -> bool {
+    let mut argument = [0u8; 8];
+    let n = os::arg(1, &mut argument);
     console::answers_arguments(
+        os::arg_count(),
+        &argument[..n],
         b"messagemac",
         b"usage: messagemac <FILE   (messagemac --help says more)\n",
         b"usage: messagemac <FILE

@@ -108,12 +108,15 @@ pub fn hexadecimal(digits: &[u8]) -> Option<Vec<u8>> {
 }
 
 /// Characters as such; `-` for none; `hex:` and hexadecimal digits for any bytes.
-fn as_such(input: &[u8]) -> Vec<u8> {
+fn as_such(input: &[u8]) -> Result<Vec<u8>, String> {
     if input == b"-" {
-        return Vec::new();
+        return Ok(Vec::new());
     }
-    let written = input.strip_prefix(b"hex:").and_then(hexadecimal);
-    written.unwrap_or(input.to_vec())
+    match input.strip_prefix(b"hex:") {
+        Some(b"") => Ok(Vec::new()),
+        Some(digits) => hexadecimal(digits).ok_or("no hexadecimal bytes after `hex:`".to_string()),
+        None => Ok(input.to_vec()),
+    }
 }
 
 impl<'a> Inputs<'a> {
@@ -139,13 +142,13 @@ impl<'a> Inputs<'a> {
 
     /// An input of characters: a PIN or a card number.
     pub fn characters(&mut self) -> Result<Vec<u8>, String> {
-        Ok(as_such(self.next()?))
+        as_such(self.next()?)
     }
 
     /// An input of text: the rest of the line, with its spaces.
     pub fn text(&mut self) -> Result<Vec<u8>, String> {
         let rest = self.0.take().filter(|rest| !rest.is_empty());
-        Ok(as_such(rest.ok_or("a text is missing")?))
+        as_such(rest.ok_or("a text is missing")?)
     }
 
     /// An input that is a decimal number.

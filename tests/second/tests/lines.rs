@@ -32,11 +32,8 @@ key-entry/largest 18446744073709551615 0123456789ABCDEF = refused 6
 clean/a ab  c = done AB C
 clean/before   ab = done AB
 clean/after hex:616220 = done AB
-clean/no-hex hex:616220x = done HEX616220X
-clean/odd hex:616 = done HEX616
 clean/hyphen hex:2D = done -
 clean/hyphens --- = done -
-clean/words hex:61 62 = done HEX61 62
 clean@3/room ab  c = refused 13
 clean@0/empty - = done -
 clean ab/c@d #e = done ABCD E
@@ -51,7 +48,7 @@ pin-make/hex hex:31323334 = done 041234FFFFFFFFFF
 pin-make/j 123 = refused 6
 pin-make/none - = refused 6
 pin-make/hyphen hex:2D = refused 6
-pin-make/prefix hex: = refused 7
+pin-make/prefix hex: = refused 6
 pin-make@7/room 1234 = refused 13
 pin-make-with-card/h 1234 4219876543210987 = done 0412AC89ABCDEF67
 pin-read/f 041234FFFFFFFFFF = done 1234
@@ -157,6 +154,10 @@ fn wrong_lines() {
         "encrypt/x 133457799BBCDFF 0123456789ABCDEF",
         "encrypt/x 133457799BBCDFG1 0123456789ABCDEF",
         "encrypt/x hex:133457799BBCDFF1 0123456789ABCDEF",
+        "clean/x hex:616220x",
+        "clean/x hex:616",
+        "clean/x hex:61 62",
+        "pin-make/x hex:3",
         " encrypt/x 133457799BBCDFF1 0123456789ABCDEF",
         "Encrypt/x 133457799BBCDFF1 0123456789ABCDEF",
         "des-encrypt/x 133457799BBCDFF1 0123456789ABCDEF",

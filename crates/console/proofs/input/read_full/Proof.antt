@@ -3,6 +3,7 @@ use borrow.Author.Needs.{needs}
 use mathlib.Core.Path.{_≡_, sym}
 use mathlib.Core.Bool.{false≢true}
 use Prim.Native.Nat.{_≤_, _-_}
+use native.Mathlib.Omega.{arith}
 use lib.ListN.{length}
 use lib.Seq.{length-take-le}
 use Rattle.console.proofs.input.read_full.Statement.{statement}
@@ -33,7 +34,9 @@ same-length : tie.Need-same-length Inv-loop μ-loop
 same-length c = search needs
 
 returns : tie.Need-returns Inv-loop μ-loop
-returns c = search needs
+returns c =
+    let z = c .before .before .before .read-some .ensures .1 (c .if1 .taken) in
+    ((omega (arith, z), sym (length-take-le _ _ (omega (arith, z)))), λ _. z)
 
 add-done : tie.Need-add-done Inv-loop μ-loop
 add-done c = search needs

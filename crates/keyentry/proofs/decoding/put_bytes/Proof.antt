@@ -43,7 +43,7 @@ loop-again c =
     let n = key-length text (s .args .size .0) (s .pre .0) in
     let at = key-at text (l .i) (omega (arith, s .pre)) in (
       rw (l .inv .0, add-one (l .i), c .byte-of .ensures, ← at)
-      (simp zero-add at (paste-suc (s .args .out .now) 0 (keyOf text) (l .i) 0 (omega (arith, s .pre)) (omega (arith, s .pre)))),
+          (simp zero-add at (paste-suc (s .args .out .now) 0 (keyOf text) (l .i) 0 (omega (arith, s .pre)) (omega (arith, s .pre)))),
       omega arith,
       simp length-set (l .inv .2),
     )
