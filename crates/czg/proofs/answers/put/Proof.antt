@@ -1,11 +1,9 @@
+-- `put` meets its contract.
+use borrow.Author.Needs.{needs}
 use native.Mathlib.Omega.{arith}
 use Rattle.czg.proofs.Bounds.{appended-within}
-use borrow.Author.Needs.{needs}
 use Rattle.czg.proofs.answers.put.Statement.{statement}
 use Rattle.czg.proofs.answers.put.Tie as tie
-use Rattle.czg.proofs.answers.put.Reads as reads
-use Rattle.czg.proofs.answers.put.Lts as lts
-use Rattle.lent.proofs.append.Reads as append-reads
 
 append-requires : tie.Need-append-requires
 append-requires c κs = search needs

@@ -1,13 +1,10 @@
+-- `put_digits` meets its contract.
+use borrow.Author.Needs.{needs}
 use mathlib.Core.Path.{_≡_}
 use Prim.Native.Nat.{_≤_, _-_}
 use lib.ListN.{length}
-use borrow.Author.Needs.{needs}
 use Rattle.czg.proofs.answers.put_digits.Statement.{statement}
 use Rattle.czg.proofs.answers.put_digits.Tie as tie
-use Rattle.czg.proofs.answers.put_digits.Reads as reads
-use Rattle.czg.proofs.answers.put_digits.Lts as lts
-use Rattle.czg.proofs.answers.put.Reads as put-reads
-use Rattle.keyentry.proofs.byte_text.Reads as byte-text-reads
 
 abbrev Inv-loop : tie.InvT-loop
 Inv-loop out₀ n value k₀ i₀ out k i = (i ≤ length value) × (k ≤ length out) × (length out ≡ length out₀)

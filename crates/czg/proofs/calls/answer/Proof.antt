@@ -1,12 +1,9 @@
+-- `answer` meets its contract.
+use borrow.Author.Needs.{needs}
 use mathlib.Core.Path.{sym}
 use lib.Seq.{length-take-le}
-use borrow.Author.Needs.{needs}
 use Rattle.czg.proofs.calls.answer.Statement.{statement}
 use Rattle.czg.proofs.calls.answer.Tie as tie
-use Rattle.czg.proofs.calls.answer.Reads as reads
-use Rattle.czg.proofs.calls.answer.Lts as lts
-use Rattle.czg.proofs.calls.answer_next_key.Reads as answer-next-key-reads
-use Rattle.czg.proofs.calls.answer_one.Reads as answer-one-reads
 
 slice-relend-prefix-answer-next-key : tie.Need-slice-relend-prefix-answer-next-key
 slice-relend-prefix-answer-next-key c = search needs

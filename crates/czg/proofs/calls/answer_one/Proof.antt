@@ -1,14 +1,9 @@
+-- `answer_one` meets its contract.
+use borrow.Author.Needs.{needs}
 use mathlib.Core.Path.{sym}
 use lib.Seq.{length-take-le}
-use borrow.Author.Needs.{needs}
 use Rattle.czg.proofs.calls.answer_one.Statement.{statement}
 use Rattle.czg.proofs.calls.answer_one.Tie as tie
-use Rattle.czg.proofs.calls.answer_one.Reads as reads
-use Rattle.czg.proofs.calls.answer_one.Lts as lts
-use Rattle.czg.proofs.calls.call_with_room.Reads as call-with-room-reads
-use Rattle.czg.proofs.calls.is_text.Reads as is-text-reads
-use Rattle.czg.proofs.calls.put_answer.Reads as put-answer-reads
-use Rattle.io.proofs.buffer.Reads as buffer-reads
 
 buffer-requires : tie.Need-buffer-requires
 buffer-requires c κs = search needs

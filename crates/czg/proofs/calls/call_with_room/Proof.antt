@@ -1,13 +1,11 @@
-use mathlib.Core.Path.{sym}
-use lib.Seq.{length-take-le}
-use native.Mathlib.Omega.{arith}
-use lib.ListN.{length-append}
+-- `call_with_room` meets its contract.
 use borrow.Author.Needs.{needs}
+use mathlib.Core.Path.{sym}
+use native.Mathlib.Omega.{arith}
+use lib.Seq.{length-take-le}
+use lib.ListN.{length-append}
 use Rattle.czg.proofs.calls.call_with_room.Statement.{statement}
 use Rattle.czg.proofs.calls.call_with_room.Tie as tie
-use Rattle.czg.proofs.calls.call_with_room.Reads as reads
-use Rattle.czg.proofs.calls.call_with_room.Lts as lts
-use Rattle.czg.proofs.calls.call.Reads as call-reads
 
 slice-aggregate-call : tie.Need-slice-aggregate-call
 slice-aggregate-call c = sym (length-take-le _ _ (search needs))

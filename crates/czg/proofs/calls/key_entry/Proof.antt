@@ -1,18 +1,9 @@
+-- `key_entry` meets its contract.
+use borrow.Author.Needs.{needs}
 use native.Mathlib.Omega.{arith}
 use Rattle.czg.proofs.Bounds.{within}
-use borrow.Author.Needs.{needs}
 use Rattle.czg.proofs.calls.key_entry.Statement.{statement}
 use Rattle.czg.proofs.calls.key_entry.Tie as tie
-use Rattle.czg.proofs.calls.key_entry.Reads as reads
-use Rattle.czg.proofs.calls.key_entry.Lts as lts
-use Rattle.chizuregwo.proofs.cards.czg_arpc.Reads as czg-arpc-reads
-use Rattle.chizuregwo.proofs.cards.czg_arqc.Reads as czg-arqc-reads
-use Rattle.chizuregwo.proofs.cards.czg_card_key.Reads as czg-card-key-reads
-use Rattle.chizuregwo.proofs.cards.czg_derivation_data.Reads as czg-derivation-data-reads
-use Rattle.chizuregwo.proofs.cards.czg_session_key.Reads as czg-session-key-reads
-use Rattle.chizuregwo.proofs.hosts.czg_host_key.Reads as czg-host-key-reads
-use Rattle.chizuregwo.proofs.hosts.czg_initial_key.Reads as czg-initial-key-reads
-use Rattle.chizuregwo.proofs.terminals.czg_terminal_load.Reads as czg-terminal-load-reads
 
 cast-czg-derivation-data : tie.Need-cast-czg-derivation-data
 cast-czg-derivation-data c = search needs

@@ -1,11 +1,9 @@
+-- `next_key` meets its contract.
+use borrow.Author.Needs.{needs}
 use mathlib.Core.Path.{sym}
 use lib.Seq.{length-take-le}
-use borrow.Author.Needs.{needs}
 use Rattle.czg.proofs.calls.next_key.Statement.{statement}
 use Rattle.czg.proofs.calls.next_key.Tie as tie
-use Rattle.czg.proofs.calls.next_key.Reads as reads
-use Rattle.czg.proofs.calls.next_key.Lts as lts
-use Rattle.chizuregwo.proofs.terminals.czg_terminal_next_key.Reads as czg-terminal-next-key-reads
 
 slice-relend-prefix-czg-terminal-next-key : tie.Need-slice-relend-prefix-czg-terminal-next-key
 slice-relend-prefix-czg-terminal-next-key c = search needs

@@ -1,18 +1,9 @@
+-- `pin_entry` meets its contract.
+use borrow.Author.Needs.{needs}
 use native.Mathlib.Omega.{arith}
 use Rattle.czg.proofs.Bounds.{within}
-use borrow.Author.Needs.{needs}
 use Rattle.czg.proofs.calls.pin_entry.Statement.{statement}
 use Rattle.czg.proofs.calls.pin_entry.Tie as tie
-use Rattle.czg.proofs.calls.pin_entry.Reads as reads
-use Rattle.czg.proofs.calls.pin_entry.Lts as lts
-use Rattle.chizuregwo.proofs.pins.czg_pin_decipher.Reads as czg-pin-decipher-reads
-use Rattle.chizuregwo.proofs.pins.czg_pin_decipher_with_card.Reads as czg-pin-decipher-with-card-reads
-use Rattle.chizuregwo.proofs.pins.czg_pin_encipher.Reads as czg-pin-encipher-reads
-use Rattle.chizuregwo.proofs.pins.czg_pin_encipher_with_card.Reads as czg-pin-encipher-with-card-reads
-use Rattle.chizuregwo.proofs.pins.czg_pin_make.Reads as czg-pin-make-reads
-use Rattle.chizuregwo.proofs.pins.czg_pin_make_with_card.Reads as czg-pin-make-with-card-reads
-use Rattle.chizuregwo.proofs.pins.czg_pin_read.Reads as czg-pin-read-reads
-use Rattle.chizuregwo.proofs.pins.czg_pin_read_with_card.Reads as czg-pin-read-with-card-reads
 
 czg-pin-make-requires : tie.Need-czg-pin-make-requires
 czg-pin-make-requires c κs = search needs

@@ -1,12 +1,9 @@
+-- `put_next_key` meets its contract.
+use borrow.Author.Needs.{needs}
 use mathlib.Core.Path.{sym}
 use lib.Seq.{length-take-le}
-use borrow.Author.Needs.{needs}
 use Rattle.czg.proofs.calls.put_next_key.Statement.{statement}
 use Rattle.czg.proofs.calls.put_next_key.Tie as tie
-use Rattle.czg.proofs.calls.put_next_key.Reads as reads
-use Rattle.czg.proofs.calls.put_next_key.Lts as lts
-use Rattle.czg.proofs.answers.put.Reads as put-reads
-use Rattle.czg.proofs.answers.put_value.Reads as put-value-reads
 
 slice-aggregate-put : tie.Need-slice-aggregate-put
 slice-aggregate-put c = search needs

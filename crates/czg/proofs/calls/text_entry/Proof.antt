@@ -1,17 +1,9 @@
+-- `text_entry` meets its contract.
+use borrow.Author.Needs.{needs}
 use native.Mathlib.Omega.{arith}
 use Rattle.czg.proofs.Bounds.{within}
-use borrow.Author.Needs.{needs}
 use Rattle.czg.proofs.calls.text_entry.Statement.{statement}
 use Rattle.czg.proofs.calls.text_entry.Tie as tie
-use Rattle.czg.proofs.calls.text_entry.Reads as reads
-use Rattle.czg.proofs.calls.text_entry.Lts as lts
-use Rattle.chizuregwo.proofs.ciphers.czg_decrypt.Reads as czg-decrypt-reads
-use Rattle.chizuregwo.proofs.ciphers.czg_encrypt.Reads as czg-encrypt-reads
-use Rattle.chizuregwo.proofs.messages.czg_clean.Reads as czg-clean-reads
-use Rattle.chizuregwo.proofs.messages.czg_key_entry.Reads as czg-key-entry-reads
-use Rattle.chizuregwo.proofs.messages.czg_message_mac.Reads as czg-message-mac-reads
-use Rattle.chizuregwo.proofs.messages.czg_message_text.Reads as czg-message-text-reads
-use Rattle.chizuregwo.proofs.messages.czg_text_mac.Reads as czg-text-mac-reads
 
 czg-encrypt-requires : tie.Need-czg-encrypt-requires
 czg-encrypt-requires c κs = search needs

@@ -1,19 +1,14 @@
-use Rattle.lent.proofs.Lists.{part-rest}
+-- `put_input` meets its contract.
 use borrow.Author.Tests.{not-true, not-false}
-use mathlib.Core.Path.{_≡_, sym, _∙_}
+use borrow.Author.Needs.{needs}
+use mathlib.Core.Path.{sym, _∙_}
 use Prim.Native.Nat.{_≤_}
 use lib.ListN.{length}
+use Rattle.lent.proofs.Lists.{part-rest}
 use Rattle.czg.specs.Inputs.{hex, inputBytes}
 use Rattle.czg.proofs.Prefixes.{starts-length}
-use borrow.Author.Needs.{needs}
 use Rattle.czg.proofs.inputs.put_input.Statement.{statement}
 use Rattle.czg.proofs.inputs.put_input.Tie as tie
-use Rattle.czg.proofs.inputs.put_input.Reads as reads
-use Rattle.czg.proofs.inputs.put_input.Lts as lts
-use Rattle.czg.proofs.lines.is.Reads as is-reads
-use Rattle.czg.proofs.lines.starts.Reads as starts-reads
-use Rattle.keyentry.proofs.text_bytes.Reads as text-bytes-reads
-use Rattle.lent.proofs.lend.Reads as lend-reads
 
 slice-aggregate-is : tie.Need-slice-aggregate-is
 slice-aggregate-is c = search needs

@@ -1,19 +1,12 @@
-use native.Mathlib.Omega.{arith}
+-- `read_inputs` meets its contract.
+use borrow.Author.Needs.{needs}
 use mathlib.Core.Path.{_≡_}
 use Prim.Native.Nat.{_≤_, _+_, _-_}
+use native.Mathlib.Omega.{arith}
 use lib.ListN.{length}
 use Rattle.czg.specs.Private.{Within}
-use borrow.Author.Needs.{needs}
 use Rattle.czg.proofs.inputs.read_inputs.Statement.{statement}
 use Rattle.czg.proofs.inputs.read_inputs.Tie as tie
-use Rattle.czg.proofs.inputs.read_inputs.Reads as reads
-use Rattle.czg.proofs.inputs.read_inputs.Lts as lts
-use Rattle.czg.proofs.inputs.end_of.Reads as end-of-reads
-use Rattle.czg.proofs.inputs.faulty.Reads as faulty-reads
-use Rattle.czg.proofs.inputs.nothing_read.Reads as nothing-read-reads
-use Rattle.czg.proofs.inputs.second_word.Reads as second-word-reads
-use Rattle.czg.proofs.inputs.with_input.Reads as with-input-reads
-use Rattle.czg.proofs.lines.find.Reads as find-reads
 
 abbrev Inv-loop : tie.InvT-loop
 Inv-loop usage line bytes₀ i₀ place₀ at₀ bytes i place at =

@@ -1,18 +1,10 @@
-use native.Mathlib.Omega.{arith}
-use lib.ListN.{length, length-drop}
-use Rattle.czg.proofs.Bounds.{written-within}
+-- `with_input` meets its contract.
 use borrow.Author.Needs.{needs}
+use native.Mathlib.Omega.{arith}
+use lib.ListN.{length-drop}
+use Rattle.czg.proofs.Bounds.{written-within}
 use Rattle.czg.proofs.inputs.with_input.Statement.{statement}
 use Rattle.czg.proofs.inputs.with_input.Tie as tie
-use Rattle.czg.proofs.inputs.with_input.Reads as reads
-use Rattle.czg.proofs.inputs.with_input.Lts as lts
-use Rattle.czg.proofs.inputs.faulty.Reads as faulty-reads
-use Rattle.czg.proofs.inputs.is_characters.Reads as is-characters-reads
-use Rattle.czg.proofs.inputs.most_number.Reads as most-number-reads
-use Rattle.czg.proofs.inputs.put_input.Reads as put-input-reads
-use Rattle.czg.proofs.inputs.with_bytes.Reads as with-bytes-reads
-use Rattle.czg.proofs.inputs.with_number.Reads as with-number-reads
-use Rattle.czg.proofs.numbers.number_of.Reads as number-of-reads
 
 faulty-requires : tie.Need-faulty-requires
 faulty-requires c κs = search needs

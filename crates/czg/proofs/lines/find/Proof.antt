@@ -1,10 +1,9 @@
+-- `find` meets its contract.
+use borrow.Author.Needs.{needs}
 use Prim.Native.Nat.{_≤_, _-_}
 use lib.ListN.{length}
-use borrow.Author.Needs.{needs}
 use Rattle.czg.proofs.lines.find.Statement.{statement}
 use Rattle.czg.proofs.lines.find.Tie as tie
-use Rattle.czg.proofs.lines.find.Reads as reads
-use Rattle.czg.proofs.lines.find.Lts as lts
 
 abbrev Inv-loop : tie.InvT-loop
 Inv-loop s from x i₀ i = (from ≤ i) × (i ≤ length s)

@@ -1,11 +1,9 @@
+-- `is` meets its contract.
 use borrow.Author.Tests.{eq-eqb, ne-eqb}
-use Rattle.czg.specs.Inputs.{same}
 use borrow.Author.Needs.{needs}
+use Rattle.czg.specs.Inputs.{same}
 use Rattle.czg.proofs.lines.is.Statement.{statement}
 use Rattle.czg.proofs.lines.is.Tie as tie
-use Rattle.czg.proofs.lines.is.Reads as reads
-use Rattle.czg.proofs.lines.is.Lts as lts
-use Rattle.czg.proofs.lines.starts.Reads as starts-reads
 
 returns : tie.Need-returns
 unfolding same

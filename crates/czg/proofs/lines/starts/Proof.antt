@@ -1,14 +1,13 @@
+-- `starts` meets its contract.
+use borrow.Author.Needs.{needs}
 use mathlib.Core.Path.{_≡_, refl, sym, _∙_}
 use Prim.Native.Nat.{_≤_, _-_}
 use native.Mathlib.Omega.{arith}
 use lib.ListN.{length, drop}
 use Rattle.czg.specs.Inputs.{startsWith}
 use Rattle.czg.proofs.Prefixes.{found, too-short, differs, goes-on}
-use borrow.Author.Needs.{needs}
 use Rattle.czg.proofs.lines.starts.Statement.{statement}
 use Rattle.czg.proofs.lines.starts.Tie as tie
-use Rattle.czg.proofs.lines.starts.Reads as reads
-use Rattle.czg.proofs.lines.starts.Lts as lts
 
 abbrev Inv-loop : tie.InvT-loop
 Inv-loop line text i₀ i = (i ≤ length text) × (startsWith (drop i text) (drop i line) ≡ startsWith text line)

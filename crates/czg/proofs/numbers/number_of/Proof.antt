@@ -1,13 +1,9 @@
+-- `number_of` meets its contract.
+use borrow.Author.Needs.{needs}
 use Prim.Native.Nat.{_≤_, _-_}
 use lib.ListN.{length}
-use borrow.Author.Needs.{needs}
 use Rattle.czg.proofs.numbers.number_of.Statement.{statement}
 use Rattle.czg.proofs.numbers.number_of.Tie as tie
-use Rattle.czg.proofs.numbers.number_of.Reads as reads
-use Rattle.czg.proofs.numbers.number_of.Lts as lts
-use Rattle.czg.proofs.numbers.no_number.Reads as no-number-reads
-use Rattle.czg.proofs.numbers.value_of.Reads as value-of-reads
-use Rattle.lent.proofs.is_digit.Reads as is-digit-reads
 
 abbrev Inv-loop : tie.InvT-loop
 Inv-loop text most n₀ i₀ n i = i ≤ length text

@@ -1,12 +1,11 @@
+-- `move_down` meets its contract.
+use borrow.Author.Needs.{needs}
 use mathlib.Core.Path.{_≡_}
 use Prim.Native.Nat.{_≤_, _-_}
 use native.Mathlib.Omega.{arith}
 use lib.ListN.{length, length-set}
-use borrow.Author.Needs.{needs}
 use Rattle.czg.proofs.reading.move_down.Statement.{statement}
 use Rattle.czg.proofs.reading.move_down.Tie as tie
-use Rattle.czg.proofs.reading.move_down.Reads as reads
-use Rattle.czg.proofs.reading.move_down.Lts as lts
 
 abbrev Inv-loop : tie.InvT-loop
 Inv-loop input₀ at count i₀ input i = (i ≤ count) × (length input ≡ length input₀)

@@ -1,13 +1,10 @@
+-- `run` meets its contract.
+use borrow.Author.Needs.{needs}
 use mathlib.Core.Path.{_≡_}
 use Prim.Native.Nat.{_≤_}
 use lib.ListN.{length}
-use borrow.Author.Needs.{needs}
 use Rattle.czg.proofs.reading.run.Statement.{statement}
 use Rattle.czg.proofs.reading.run.Tie as tie
-use Rattle.czg.proofs.reading.run.Reads as reads
-use Rattle.czg.proofs.reading.run.Lts as lts
-use Rattle.czg.proofs.reading.turn.Reads as turn-reads
-use Rattle.io.proofs.large_buffer.Reads as large-buffer-reads
 
 abbrev Inv-loop : tie.InvT-loop
 Inv-loop table input₀ bytes₀ out₀ now₀ reads₀ input bytes out now reads =

@@ -1,16 +1,10 @@
+-- `turn` meets its contract.
+use borrow.Author.Needs.{needs}
 use mathlib.Core.Path.{sym}
 use lib.Seq.{length-take-le}
 use Rattle.czg.proofs.Bounds.{at-most}
-use borrow.Author.Needs.{needs}
 use Rattle.czg.proofs.reading.turn.Statement.{statement}
 use Rattle.czg.proofs.reading.turn.Tie as tie
-use Rattle.czg.proofs.reading.turn.Reads as reads
-use Rattle.czg.proofs.reading.turn.Lts as lts
-use Rattle.console.proofs.read_some.Reads as read-some-reads
-use Rattle.czg.proofs.reading.answer_last.Reads as answer-last-reads
-use Rattle.czg.proofs.reading.ended.Reads as ended-reads
-use Rattle.czg.proofs.reading.hold_rest.Reads as hold-rest-reads
-use Rattle.czg.proofs.serving.serve.Reads as serve-reads
 
 slice-aggregate-read-some : tie.Need-slice-aggregate-read-some
 slice-aggregate-read-some c = search needs

@@ -1,11 +1,9 @@
+-- `name_of` meets its contract.
+use borrow.Author.Needs.{needs}
 use mathlib.Core.Path.{sym}
 use lib.Seq.{length-take-le}
-use borrow.Author.Needs.{needs}
 use Rattle.czg.proofs.requests.name_of.Statement.{statement}
 use Rattle.czg.proofs.requests.name_of.Tie as tie
-use Rattle.czg.proofs.requests.name_of.Reads as reads
-use Rattle.czg.proofs.requests.name_of.Lts as lts
-use Rattle.czg.proofs.lines.find.Reads as find-reads
 
 find-requires : tie.Need-find-requires
 find-requires c κs = search needs

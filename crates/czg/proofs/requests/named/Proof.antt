@@ -1,12 +1,9 @@
+-- `named` meets its contract.
+use borrow.Author.Needs.{needs}
 use mathlib.Core.Path.{sym}
 use lib.Seq.{length-take-le}
-use borrow.Author.Needs.{needs}
 use Rattle.czg.proofs.requests.named.Statement.{statement}
 use Rattle.czg.proofs.requests.named.Tie as tie
-use Rattle.czg.proofs.requests.named.Reads as reads
-use Rattle.czg.proofs.requests.named.Lts as lts
-use Rattle.czg.proofs.lines.find.Reads as find-reads
-use Rattle.czg.proofs.lines.is.Reads as is-reads
 
 find-requires : tie.Need-find-requires
 find-requires c κs = search needs

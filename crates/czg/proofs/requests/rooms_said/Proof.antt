@@ -1,13 +1,9 @@
+-- `rooms_said` meets its contract.
+use borrow.Author.Needs.{needs}
 use mathlib.Core.Path.{sym}
 use lib.Seq.{length-take-le}
-use borrow.Author.Needs.{needs}
 use Rattle.czg.proofs.requests.rooms_said.Statement.{statement}
 use Rattle.czg.proofs.requests.rooms_said.Tie as tie
-use Rattle.czg.proofs.requests.rooms_said.Reads as reads
-use Rattle.czg.proofs.requests.rooms_said.Lts as lts
-use Rattle.czg.proofs.lines.find.Reads as find-reads
-use Rattle.czg.proofs.numbers.number_of.Reads as number-of-reads
-use Rattle.czg.proofs.requests.no_rooms.Reads as no-rooms-reads
 
 find-requires : tie.Need-find-requires
 find-requires c κs = search needs

@@ -1,12 +1,9 @@
+-- `usage_of` meets its contract.
+use borrow.Author.Needs.{needs}
 use Prim.Native.Nat.{_≤_, _+_, _-_}
 use lib.ListN.{length}
-use borrow.Author.Needs.{needs}
 use Rattle.czg.proofs.requests.usage_of.Statement.{statement}
 use Rattle.czg.proofs.requests.usage_of.Tie as tie
-use Rattle.czg.proofs.requests.usage_of.Reads as reads
-use Rattle.czg.proofs.requests.usage_of.Lts as lts
-use Rattle.czg.proofs.lines.find.Reads as find-reads
-use Rattle.czg.proofs.requests.named.Reads as named-reads
 
 abbrev Inv-loop : tie.InvT-loop
 Inv-loop table name place₀ from₀ place from = (from ≤ length table + 1) × (place ≤ from)

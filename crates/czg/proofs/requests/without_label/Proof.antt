@@ -1,11 +1,9 @@
+-- `without_label` meets its contract.
+use borrow.Author.Needs.{needs}
 use mathlib.Core.Path.{sym}
 use lib.Seq.{length-take-le}
-use borrow.Author.Needs.{needs}
 use Rattle.czg.proofs.requests.without_label.Statement.{statement}
 use Rattle.czg.proofs.requests.without_label.Tie as tie
-use Rattle.czg.proofs.requests.without_label.Reads as reads
-use Rattle.czg.proofs.requests.without_label.Lts as lts
-use Rattle.czg.proofs.lines.find.Reads as find-reads
 
 find-requires : tie.Need-find-requires
 find-requires c κs = search needs

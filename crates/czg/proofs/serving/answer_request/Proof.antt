@@ -1,19 +1,10 @@
-use native.Mathlib.Omega.{arith}
-use mathlib.Core.Path.{sym}
-use lib.Seq.{length-take-le}
+-- `answer_request` meets its contract.
 use borrow.Author.Needs.{needs}
+use mathlib.Core.Path.{sym}
+use native.Mathlib.Omega.{arith}
+use lib.Seq.{length-take-le}
 use Rattle.czg.proofs.serving.answer_request.Statement.{statement}
 use Rattle.czg.proofs.serving.answer_request.Tie as tie
-use Rattle.czg.proofs.serving.answer_request.Reads as reads
-use Rattle.czg.proofs.serving.answer_request.Lts as lts
-use Rattle.czg.proofs.answers.put_unknown.Reads as put-unknown-reads
-use Rattle.czg.proofs.calls.answer.Reads as answer-reads
-use Rattle.czg.proofs.inputs.read_inputs.Reads as read-inputs-reads
-use Rattle.czg.proofs.lines.find.Reads as find-reads
-use Rattle.czg.proofs.requests.name_of.Reads as name-of-reads
-use Rattle.czg.proofs.requests.rooms_of.Reads as rooms-of-reads
-use Rattle.czg.proofs.requests.usage_of.Reads as usage-of-reads
-use Rattle.czg.proofs.requests.without_label.Reads as without-label-reads
 
 find-requires : tie.Need-find-requires
 find-requires c κs = search needs

@@ -1,11 +1,9 @@
+-- `flushed` meets its contract.
+use borrow.Author.Needs.{needs}
 use mathlib.Core.Path.{sym}
 use lib.Seq.{length-take-le}
-use borrow.Author.Needs.{needs}
 use Rattle.czg.proofs.serving.flushed.Statement.{statement}
 use Rattle.czg.proofs.serving.flushed.Tie as tie
-use Rattle.czg.proofs.serving.flushed.Reads as reads
-use Rattle.czg.proofs.serving.flushed.Lts as lts
-use Rattle.console.proofs.write.Reads as write-reads
 
 slice-aggregate-write : tie.Need-slice-aggregate-write
 slice-aggregate-write c = search needs

@@ -1,15 +1,10 @@
+-- `serve` meets its contract.
+use borrow.Author.Needs.{needs}
 use mathlib.Core.Path.{_≡_}
 use Prim.Native.Nat.{_≤_, _-_}
 use lib.ListN.{length}
-use borrow.Author.Needs.{needs}
 use Rattle.czg.proofs.serving.serve.Statement.{statement}
 use Rattle.czg.proofs.serving.serve.Tie as tie
-use Rattle.czg.proofs.serving.serve.Reads as reads
-use Rattle.czg.proofs.serving.serve.Lts as lts
-use Rattle.czg.proofs.lines.find.Reads as find-reads
-use Rattle.czg.proofs.serving.answered.Reads as answered-reads
-use Rattle.czg.proofs.serving.flushed.Reads as flushed-reads
-use Rattle.czg.proofs.serving.with_room.Reads as with-room-reads
 
 abbrev Inv-loop : tie.InvT-loop
 Inv-loop table input passing bytes₀ out₀ at₀ rest₀ n₀ bytes out at rest n =
