@@ -49,7 +49,7 @@ fn pin_entry(place: usize, a: &[u8], b: &[u8], c: &[u8], out: &mut [u8]) -> Answ
     }
 }
 
-// A card's keys and cryptograms; the host's derivations; the loading of a terminal.
+// A card's keys and cryptograms; the host's derivations; the loading of a terminal. A sequence and a counter are in their range, as they were read.
 fn key_entry(place: usize, a: &[u8], b: &[u8], c: &[u8], x: u64, out: &mut [u8]) -> Answer
     ensures { λ r. ⌜ r .length ≤ length (now (out .exit)) ⌝ }
 {

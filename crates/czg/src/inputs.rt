@@ -13,7 +13,7 @@ ghost use Prim.Native.Nat.{_+_, _≤_};
 ghost use lib.ListN.{length};
 ghost use Rattle.lent.specs.Result.{Written};
 ghost use Rattle.czg.specs.Inputs.{inputBytes};
-ghost use Rattle.czg.specs.Private.{Within};
+ghost use Rattle.czg.specs.Private.{Within, Added};
 
 // What was read of a line's inputs: 0 or why it is no request, how many inputs of bytes there are, up to two, where the bytes of the first, the second and the
 // last end, and the number.
@@ -42,7 +42,7 @@ fn nothing_read() -> Inputs
 
 // The inputs of a line that is no request.
 fn faulty(i: Inputs, fault: u8) -> Inputs
-    ensures { λ r. ⌜ (r .first ≡ i .first) × (r .second ≡ i .second) × (r .end ≡ i .end) ⌝ }
+    ensures { λ r. ⌜ (r .first ≡ i .first) × (r .second ≡ i .second) × (r .end ≡ i .end) × (r .fault ≡ fault) ⌝ }
 {
     let mut next = i;
     next.fault = fault;
@@ -66,6 +66,7 @@ fn with_bytes(i: Inputs, end: usize) -> Inputs
     requires { ⌜ i .end ≤ end ⌝ }
     requires { ⌜ Within i (i .end) ⌝ }
     ensures { λ r. ⌜ Within r end ⌝ }
+    ensures { λ r. ⌜ r .end ≡ end ⌝ }
 {
     let mut next = i;
     next.end = end;
@@ -135,7 +136,20 @@ fn put_input(characters: bool, part: &[u8], out: &mut [u8]) -> lent::Length
     lent::lend(part, out)
 }
 
-// The inputs with the one that a part of a line is.
+// The inputs with the bytes that a part of a line says.
+fn with_part(characters: bool, part: &[u8], i: Inputs, bytes: &mut [u8]) -> Inputs
+    requires { ⌜ Within i (length (now bytes)) ⌝ }
+    ensures { λ r. ⌜ Added (inputBytes characters (now (part .entry))) i r (now (bytes .entry)) (now (bytes .exit)) ⌝ }
+{
+    let from = i.end;
+    let put = put_input(characters, part, &mut bytes[from..]);
+    if put.number != lent::DONE {
+        return faulty(i, NOT_BYTES);
+    }
+    with_bytes(i, from + put.length)
+}
+
+// The inputs with the one that a part of a line is, a number or bytes.
 fn with_input(word: &[u8], part: &[u8], i: Inputs, bytes: &mut [u8]) -> Inputs
     requires { ⌜ Within i (length (now bytes)) ⌝ }
     ensures { λ r. ⌜ Within r (length (now (bytes .exit))) ⌝ }
@@ -147,12 +161,7 @@ fn with_input(word: &[u8], part: &[u8], i: Inputs, bytes: &mut [u8]) -> Inputs
     if most != 0 {
         return with_number(i, number_of(part, most));
     }
-    let from = i.end;
-    let put = put_input(is_characters(word), part, &mut bytes[from..]);
-    if put.number != lent::DONE {
-        return faulty(i, NOT_BYTES);
-    }
-    with_bytes(i, from + put.length)
+    with_part(is_characters(word), part, i, bytes)
 }
 
 // Where the word after the first space of a line starts; past the line's end where there is none.

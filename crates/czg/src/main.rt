@@ -25,8 +25,34 @@ fn asked(table: &[u8]) -> bool {
 
 fn main() {
     // the requests, in the order of their places in `calls`, each with its inputs; then what help says of them
-    let table =
-        b"encrypt KEY BLOCK\ndecrypt KEY BLOCK\nkey-entry SIZE TEXT\nclean TEXT\nmessage-text MESSAGE\ntext-mac KEY TEXT\nmessage-mac KEY MESSAGE\npin-make PIN\npin-make-with-card PIN CARD\npin-read BLOCK\npin-read-with-card BLOCK CARD\npin-encipher PIN KEY\npin-encipher-with-card PIN CARD KEY\npin-decipher BLOCK KEY\npin-decipher-with-card BLOCK CARD KEY\nderivation-data CARD SEQUENCE\ncard-key MASTER-KEY CARD SEQUENCE\nsession-key CARD-KEY COUNTER\narqc SESSION-KEY DATA\narpc SESSION-KEY ARQC CODE\ninitial-key DERIVATION-KEY SERIAL-NUMBER\nhost-key DERIVATION-KEY SERIAL-NUMBER\nterminal-load INITIAL-KEY SERIAL-NUMBER\nterminal-next-key RECORD\n# PIN, CARD: as such. TEXT: as such, the rest of the line. SIZE, SEQUENCE, COUNTER: decimal. Any other: hexadecimal. No bytes: -\n# Any bytes for PIN, CARD, TEXT: hex: and hexadecimal. NAME@ROOM lends so many bytes for the result. NAME/LABEL names a case.\n";
+    let table = b"encrypt KEY BLOCK
+decrypt KEY BLOCK
+key-entry SIZE TEXT
+clean TEXT
+message-text MESSAGE
+text-mac KEY TEXT
+message-mac KEY MESSAGE
+pin-make PIN
+pin-make-with-card PIN CARD
+pin-read BLOCK
+pin-read-with-card BLOCK CARD
+pin-encipher PIN KEY
+pin-encipher-with-card PIN CARD KEY
+pin-decipher BLOCK KEY
+pin-decipher-with-card BLOCK CARD KEY
+derivation-data CARD SEQUENCE
+card-key MASTER-KEY CARD SEQUENCE
+session-key CARD-KEY COUNTER
+arqc SESSION-KEY DATA
+arpc SESSION-KEY ARQC CODE
+initial-key DERIVATION-KEY SERIAL-NUMBER
+host-key DERIVATION-KEY SERIAL-NUMBER
+terminal-load INITIAL-KEY SERIAL-NUMBER
+terminal-next-key RECORD
+# A request is one of these on a line, single spaces between: PIN and CARD as such, TEXT as such to the end of the line,
+# SIZE, SEQUENCE and COUNTER in decimal, any other in hexadecimal, - for no bytes. PIN, CARD and TEXT of any bytes: hex: and hexadecimal.
+# NAME@ROOM lends so many bytes for the result. NAME/LABEL names a case. Answers: done and the values, refused and the number, unknown and why.
+";
     if asked(table) {
         return;
     }
