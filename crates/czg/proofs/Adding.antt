@@ -1,5 +1,4 @@
 -- What a call wrote behind the first n bytes of memory.
-use borrow.Author.Tests.{leb-true}
 use mathlib.Core.Path.{_≡_, refl, sym, ap, _∙_}
 use mathlib.Core.List.{List, _++_}
 use Prim.Native.Nat.{ℕ, _+_, _-_, _≤_}
@@ -7,7 +6,7 @@ use native.Mathlib.Omega.{arith}
 use lib.Dec.{leb}
 use lib.ListN.{length, take, drop, length-append}
 use lib.Seq.{take-at, length-take-le}
-use Rattle.lent.specs.Result.{Result, done, refused, number, bytes, lend, over, Written}
+use Rattle.lent.specs.Result.{Result, done, refused, number, bytes, lend, Written}
 use Rattle.lent.proofs.Laws.{cases, never}
 use Rattle.lent.proofs.Appending.{copied-behind}
 

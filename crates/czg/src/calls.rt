@@ -11,16 +11,19 @@ use chizuregwo::hosts;
 use chizuregwo::messages;
 use chizuregwo::pins;
 use chizuregwo::terminals;
-ghost use Prim.Native.Nat.{_≤_};
-ghost use lib.ListN.{length};
-ghost use Rattle.czg.specs.Private.{Within};
+ghost use Prim.Native.Nat.{_≤_, _<_};
+ghost use lib.ListN.{length, take};
+ghost use Rattle.lent.specs.Result.{Written};
+ghost use Rattle.czg.specs.Calls.{answerAt};
+ghost use Rattle.czg.specs.Private.{Within, answerFor};
 
 // The place of `terminal-next-key`, which has two values and a record to be changed.
 pub(crate) const NEXT_KEY: usize = 23;
 
 // The cipher, key entry, texts and MACs.
-fn text_entry(place: usize, a: &[u8], b: &[u8], x: u64, out: &mut [u8]) -> Answer
-    ensures { λ r. ⌜ r .length ≤ length (now (out .exit)) ⌝ }
+fn text_entry(place: usize, a: &[u8], b: &[u8], c: &[u8], x: u64, out: &mut [u8]) -> Answer
+    requires { ⌜ place < 7 ⌝ }
+    ensures { λ r. ⌜ Written (answerAt place (now (a .entry)) (now (b .entry)) (now (c .entry)) x) (now (out .entry)) (r .number) (r .length) (now (out .exit)) ⌝ }
 {
     match place {
         0 => ciphers::czg_encrypt(a, b, out),
@@ -34,8 +37,9 @@ fn text_entry(place: usize, a: &[u8], b: &[u8], x: u64, out: &mut [u8]) -> Answe
 }
 
 // PIN blocks.
-fn pin_entry(place: usize, a: &[u8], b: &[u8], c: &[u8], out: &mut [u8]) -> Answer
-    ensures { λ r. ⌜ r .length ≤ length (now (out .exit)) ⌝ }
+fn pin_entry(place: usize, a: &[u8], b: &[u8], c: &[u8], x: u64, out: &mut [u8]) -> Answer
+    requires { ⌜ (7 ≤ place) × (place < 15) ⌝ }
+    ensures { λ r. ⌜ Written (answerAt place (now (a .entry)) (now (b .entry)) (now (c .entry)) x) (now (out .entry)) (r .number) (r .length) (now (out .exit)) ⌝ }
 {
     match place {
         7 => pins::czg_pin_make(a, out),
@@ -51,7 +55,8 @@ fn pin_entry(place: usize, a: &[u8], b: &[u8], c: &[u8], out: &mut [u8]) -> Answ
 
 // A card's keys and cryptograms; the host's derivations; the loading of a terminal. A sequence and a counter are in their range, as they were read.
 fn key_entry(place: usize, a: &[u8], b: &[u8], c: &[u8], x: u64, out: &mut [u8]) -> Answer
-    ensures { λ r. ⌜ r .length ≤ length (now (out .exit)) ⌝ }
+    requires { ⌜ (15 ≤ place) × (place < 23) ⌝ }
+    ensures { λ r. ⌜ Written (answerAt place (now (a .entry)) (now (b .entry)) (now (c .entry)) x) (now (out .entry)) (r .number) (r .length) (now (out .exit)) ⌝ }
 {
     match place {
         15 => cards::czg_derivation_data(a, (x % 4294967296) as u32, out),
@@ -67,13 +72,14 @@ fn key_entry(place: usize, a: &[u8], b: &[u8], c: &[u8], x: u64, out: &mut [u8])
 
 // Calls an entry that writes one value.
 fn call(place: usize, a: &[u8], b: &[u8], c: &[u8], x: u64, out: &mut [u8]) -> Answer
-    ensures { λ r. ⌜ r .length ≤ length (now (out .exit)) ⌝ }
+    requires { ⌜ place < 23 ⌝ }
+    ensures { λ r. ⌜ Written (answerAt place (now (a .entry)) (now (b .entry)) (now (c .entry)) x) (now (out .entry)) (r .number) (r .length) (now (out .exit)) ⌝ }
 {
     if place < 7 {
-        return text_entry(place, a, b, x, out);
+        return text_entry(place, a, b, c, x, out);
     }
     if place < 15 {
-        return pin_entry(place, a, b, c, out);
+        return pin_entry(place, a, b, c, x, out);
     }
     key_entry(place, a, b, c, x, out)
 }
@@ -99,11 +105,12 @@ fn put_answer(out: &mut [u8], n: usize, text: bool, number: u32, value: &[u8]) -
     put(out, m, b"\n")
 }
 
-// Calls an entry that writes one value, with so much room lent to it.
+// Calls an entry that writes one value, on the bytes of the inputs, with so much room lent to it.
 fn call_with_room(place: usize, i: Inputs, room: usize, bytes: &[u8], value: &mut [u8]) -> Answer
+    requires { ⌜ place < 23 ⌝ }
     requires { ⌜ Within i (length (now bytes)) ⌝ }
     requires { ⌜ room ≤ length (now value) ⌝ }
-    ensures { λ r. ⌜ r .length ≤ length (now (value .exit)) ⌝ }
+    ensures { λ r. ⌜ Written (answerFor place i (now (bytes .entry))) (take room (now (value .entry))) (r .number) (r .length) (take room (now (value .exit))) ⌝ }
 {
     let first = i.first;
     let second = i.second;
@@ -120,6 +127,7 @@ fn call_with_room(place: usize, i: Inputs, room: usize, bytes: &[u8], value: &mu
 
 // Answers a request with one value.
 fn answer_one(place: usize, i: Inputs, room: usize, bytes: &[u8], out: &mut [u8], n: usize) -> usize
+    requires { ⌜ place < 23 ⌝ }
     requires { ⌜ Within i (length (now bytes)) ⌝ }
     requires { ⌜ room ≤ 1024 ⌝ }
     requires { ⌜ n ≤ length (now out) ⌝ }
@@ -183,9 +191,9 @@ pub(crate) fn answer(
     requires { ⌜ n ≤ length (now out) ⌝ }
     ensures { λ r. ⌜ r ≤ length (now (out .exit)) ⌝ }
 {
-    if place == NEXT_KEY {
-        let end = i.end;
-        return answer_next_key(&mut bytes[..end], rooms, out, n);
+    if place < NEXT_KEY {
+        return answer_one(place, i, rooms.first, bytes, out, n);
     }
-    answer_one(place, i, rooms.first, bytes, out, n)
+    let end = i.end;
+    answer_next_key(&mut bytes[..end], rooms, out, n)
 }

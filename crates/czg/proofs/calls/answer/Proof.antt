@@ -5,14 +5,8 @@ use lib.Seq.{length-take-le}
 use Rattle.czg.proofs.calls.answer.Statement.{statement}
 use Rattle.czg.proofs.calls.answer.Tie as tie
 
-slice-relend-prefix-answer-next-key : tie.Need-slice-relend-prefix-answer-next-key
-slice-relend-prefix-answer-next-key c = search needs
-
-slice-aggregate-answer-next-key : tie.Need-slice-aggregate-answer-next-key
-slice-aggregate-answer-next-key c = sym (length-take-le _ _ (search needs))
-
-answer-next-key-requires : tie.Need-answer-next-key-requires
-answer-next-key-requires c κs = search needs
+answer-one-requires : tie.Need-answer-one-requires
+answer-one-requires c κs = search needs
 
 same-length : tie.Need-same-length
 same-length c = search needs
@@ -23,8 +17,14 @@ same-length-2 c = search needs
 returns : tie.Need-returns
 returns c = search needs
 
-answer-one-requires : tie.Need-answer-one-requires
-answer-one-requires c κs = search needs
+slice-relend-prefix-answer-next-key : tie.Need-slice-relend-prefix-answer-next-key
+slice-relend-prefix-answer-next-key c = search needs
+
+slice-aggregate-answer-next-key : tie.Need-slice-aggregate-answer-next-key
+slice-aggregate-answer-next-key c = sym (length-take-le _ _ (search needs))
+
+answer-next-key-requires : tie.Need-answer-next-key-requires
+answer-next-key-requires c κs = search needs
 
 same-length-3 : tie.Need-same-length-3
 same-length-3 c = search needs
@@ -39,13 +39,13 @@ pub answer-spec : {M : Type 1} → statement M
 answer-spec =
     tie.close
     (tie.spec
-    slice-relend-prefix-answer-next-key
-    slice-aggregate-answer-next-key
-    answer-next-key-requires
+    answer-one-requires
     same-length
     same-length-2
     returns
-    answer-one-requires
+    slice-relend-prefix-answer-next-key
+    slice-aggregate-answer-next-key
+    answer-next-key-requires
     same-length-3
     same-length-4
     returns-2)

@@ -1,9 +1,8 @@
 -- `call_with_room` meets its contract.
 use borrow.Author.Needs.{needs}
 use mathlib.Core.Path.{sym}
-use native.Mathlib.Omega.{arith}
 use lib.Seq.{length-take-le}
-use lib.ListN.{length-append}
+use Rattle.czg.proofs.Bounds.{taken}
 use Rattle.czg.proofs.calls.call_with_room.Statement.{statement}
 use Rattle.czg.proofs.calls.call_with_room.Tie as tie
 
@@ -35,13 +34,15 @@ slice-aggregate-call-2 : tie.Need-slice-aggregate-call-2
 slice-aggregate-call-2 c = sym (length-take-le _ _ (search needs))
 
 call-requires : tie.Need-call-requires
-call-requires c κs = search needs
+call-requires c κs = c .before .before .before .before .before .before .pre .0
 
 same-length : tie.Need-same-length
 same-length c = search needs
 
 returns : tie.Need-returns
-returns c = simp length-append (omega (arith, c .before .before .call .ensures))
+returns c =
+    let s = c .before .before .before .before .before .before .before .before .before in
+    taken _ (s .args .room) (length-take-le (s .args .room) (s .args .value .now) (s .pre .1 .1)) (c .before .before .call .ensures)
 
 pub call-with-room-spec : {M : Type 1} → statement M
 call-with-room-spec =

@@ -1,7 +1,8 @@
 -- `key_entry` meets its contract.
 use borrow.Author.Needs.{needs}
-use native.Mathlib.Omega.{arith}
-use Rattle.czg.proofs.Bounds.{within}
+use mathlib.Core.Path.{_≡_}
+use Rattle.czg.specs.Calls.{answers, answerAt}
+use Rattle.czg.proofs.Bounds.{past, exactly}
 use Rattle.czg.proofs.calls.key_entry.Statement.{statement}
 use Rattle.czg.proofs.calls.key_entry.Tie as tie
 
@@ -42,49 +43,61 @@ same-length : tie.Need-same-length
 same-length c = search needs
 
 returns : tie.Need-returns
-returns c = within (c .before .before .czg-derivation-data .ensures) (omega arith)
+unfolding answerAt answers
+returns c = rw (c .before .before .before .before .match .keys1) (c .before .before .czg-derivation-data .ensures)
 
 same-length-2 : tie.Need-same-length-2
 same-length-2 c = search needs
 
 returns-2 : tie.Need-returns-2
-returns-2 c = within (c .before .before .czg-card-key .ensures) (omega arith)
+unfolding answerAt answers
+returns-2 c = rw (c .before .before .before .before .match .keys2) (c .before .before .czg-card-key .ensures)
 
 same-length-3 : tie.Need-same-length-3
 same-length-3 c = search needs
 
 returns-3 : tie.Need-returns-3
-returns-3 c = within (c .before .before .czg-session-key .ensures) (omega arith)
+unfolding answerAt answers
+returns-3 c = rw (c .before .before .before .before .match .keys3) (c .before .before .czg-session-key .ensures)
 
 same-length-4 : tie.Need-same-length-4
 same-length-4 c = search needs
 
 returns-4 : tie.Need-returns-4
-returns-4 c = within (c .before .before .czg-arqc .ensures) (omega arith)
+unfolding answerAt answers
+returns-4 c = rw (c .before .before .before .before .match .keys4) (c .before .before .czg-arqc .ensures)
 
 same-length-5 : tie.Need-same-length-5
 same-length-5 c = search needs
 
 returns-5 : tie.Need-returns-5
-returns-5 c = within (c .before .before .czg-arpc .ensures) (omega arith)
+unfolding answerAt answers
+returns-5 c = rw (c .before .before .before .before .match .keys5) (c .before .before .czg-arpc .ensures)
 
 same-length-6 : tie.Need-same-length-6
 same-length-6 c = search needs
 
 returns-6 : tie.Need-returns-6
-returns-6 c = within (c .before .before .czg-initial-key .ensures) (omega arith)
+unfolding answerAt answers
+returns-6 c = rw (c .before .before .before .before .match .keys6) (c .before .before .czg-initial-key .ensures)
 
 same-length-7 : tie.Need-same-length-7
 same-length-7 c = search needs
 
 returns-7 : tie.Need-returns-7
-returns-7 c = within (c .before .before .czg-host-key .ensures) (omega arith)
+unfolding answerAt answers
+returns-7 c = rw (c .before .before .before .before .match .keys7) (c .before .before .czg-host-key .ensures)
 
 same-length-8 : tie.Need-same-length-8
 same-length-8 c = search needs
 
 returns-8 : tie.Need-returns-8
-returns-8 c = within (c .before .before .czg-terminal-load .ensures) (omega arith)
+unfolding answerAt answers
+returns-8 c =
+    let s = c .before .before .before .before .before .before .before .before .before in
+    let r = c .before .before .before .before .match .rest in
+    let e : s .args .place ≡ 22 = exactly (past (past (past (past (past (past (past (s .pre .0) (r .0 .0 .0 .0 .0 .0 .1)) (r .0 .0 .0 .0 .0 .1)) (r .0 .0 .0 .0 .1)) (r .0 .0 .0 .1)) (r .0 .0 .1)) (r .0 .1)) (r .1)) (s .pre .1) in
+    rw e (c .before .before .czg-terminal-load .ensures)
 
 pub key-entry-spec : {M : Type 1} → statement M
 key-entry-spec =

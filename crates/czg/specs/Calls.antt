@@ -1,0 +1,48 @@
+-- What is answered to a request, from its place in the table, the bytes of its inputs and its number.
+use mathlib.Core.List.{List, [], _∷_}
+use Prim.Native.Nat.{ℕ, _%_}
+use lib.ListN.{getD}
+use Rattle.lent.specs.Numbers.{size}
+use Rattle.lent.specs.Result.{Result, refused}
+use Rattle.keyed.specs.Keyed.{encipherBlock, decipherBlock}
+use Rattle.keyentry.specs.KeyEntry.{keyEntry}
+use Rattle.cleaning.specs.Cleaning.{cleanText}
+use Rattle.message.specs.Text.{messageText}
+use Rattle.mac.specs.Mac.{textMac, messageMac}
+use Rattle.pinblock.specs.Entries as Pin
+use Rattle.card.specs.Entries as Card
+use Rattle.host.specs.Entries.{initialKey, hostKey}
+use Rattle.chizuregwo.specs.Calls.{loadedBytes}
+
+-- The answers of the table's entries, in its order, from the inputs a, b and c and the number x. (A sequence is below 2 to the power 32 and a
+-- counter below 2 to the power 16.) The last entry, a terminal's next key, has its own promise, `Called` of the C library.
+unfoldable pub answers : List ℕ → List ℕ → List ℕ → ℕ → List (Result (List ℕ))
+answers a b c x =
+    encipherBlock a b
+    ∷ decipherBlock a b
+    ∷ keyEntry a (record { 0 = x })
+    ∷ cleanText a
+    ∷ messageText a
+    ∷ textMac a b
+    ∷ messageMac a b
+    ∷ Pin.make a
+    ∷ Pin.makeWithCard a b
+    ∷ Pin.read a
+    ∷ Pin.readWithCard a b
+    ∷ Pin.encipher a b
+    ∷ Pin.encipherWithCard a b c
+    ∷ Pin.decipher a b
+    ∷ Pin.decipherWithCard a b c
+    ∷ Card.derivationData a (x % 4294967296)
+    ∷ Card.cardKey a b (x % 4294967296)
+    ∷ Card.sessionKey a (x % 65536)
+    ∷ Card.arqc a b
+    ∷ Card.arpc a b c
+    ∷ initialKey a b
+    ∷ hostKey a b
+    ∷ loadedBytes a b
+    ∷ []
+
+-- the answer of the entry at a place
+unfoldable pub answerAt : ℕ → List ℕ → List ℕ → List ℕ → ℕ → Result (List ℕ)
+answerAt place a b c x = getD (answers a b c x) place (refused size)
