@@ -1,13 +1,13 @@
 // The parts of a line.
 ghost use mathlib.Core.Path.{_≡_};
 ghost use Prim.Native.Nat.{_≤_};
-ghost use lib.ListN.{length};
+ghost use lib.ListN.{length, take};
 ghost use Rattle.czg.specs.Inputs.{startsWith, same};
 
 // The first place from `from` on where x stands, or the end.
 pub(crate) fn find(s: &[u8], from: usize, x: u8) -> usize
     requires { ⌜ from ≤ length (now s) ⌝ }
-    ensures { λ r. ⌜ (from ≤ r) × (r ≤ length (now (s .entry))) ⌝ }
+    ensures { λ r. ⌜ (from ≤ r) × (r ≤ length (now (s .entry))) × (r ≡ length (take r (now (s .entry)))) ⌝ }
 {
     let mut i = from;
     while i < s.len() {

@@ -1,7 +1,9 @@
 -- `find` meets its contract.
 use borrow.Author.Needs.{needs}
+use mathlib.Core.Path.{sym}
 use Prim.Native.Nat.{_≤_, _-_}
 use lib.ListN.{length}
+use lib.Seq.{length-take-le}
 use Rattle.czg.proofs.lines.find.Statement.{statement}
 use Rattle.czg.proofs.lines.find.Tie as tie
 
@@ -18,7 +20,7 @@ shared-slice-read-if1 : tie.Need-shared-slice-read-if1 Inv-loop μ-loop
 shared-slice-read-if1 c = search needs
 
 returns : tie.Need-returns Inv-loop μ-loop
-returns c = search needs
+returns c = (search needs, search needs, sym (length-take-le _ _ (search needs)))
 
 add-i : tie.Need-add-i Inv-loop μ-loop
 add-i c = search needs
@@ -30,7 +32,7 @@ loop-again : tie.Need-loop-again Inv-loop μ-loop
 loop-again c = search needs
 
 returns-2 : tie.Need-returns-2 Inv-loop μ-loop
-returns-2 c = search needs
+returns-2 c = (search needs, search needs, sym (length-take-le _ _ (search needs)))
 
 pub find-spec : {M : Type 1} → statement M
 find-spec =
