@@ -1,8 +1,8 @@
 pub mod Choice
+pub mod Words
 pub mod Characters
 pub mod CardNumbers
 pub mod Keys
-pub mod Numbers
+pub mod Refusals
 pub mod Result
-pub mod Appended
-pub mod Words
+pub mod Appending

@@ -3,48 +3,44 @@ use mathlib.Core.Path.{_≡_}
 use mathlib.Core.Bool.{Bool}
 use mathlib.Core.List.{List, [], _++_}
 use Prim.Native.Nat.{ℕ}
-use lib.Dec.{leb, eqb}
+use lib.Dec.{leb}
 use lib.ListN.{length, drop, replicate}
 use Rattle.lent.specs.Choice.{pick}
-use Rattle.lent.specs.Numbers.{shortBuffer}
+use Rattle.lent.specs.Refusals.{Refusal, numberOf, shortBuffer}
 
--- A value, or the number of the refusal.
+-- A value, or a refusal.
 pub data Result (A : Type 0) : Type 0 where
   done : A → Result A
-  refused : ℕ → Result A
+  refused : Refusal → Result A
 
 -- The number an operator sees: 0 where done.
 abbrev pub number : {A : Type 0} → Result A → ℕ
 number (done a) = 0
-number (refused n) = n
+number (refused why) = numberOf why
 
--- The result where the test holds, else the refusal n.
-abbrev pub require : {A : Type 0} → Bool → ℕ → Result A → Result A
-require test n r = pick test r (refused n)
+-- The result if the test holds, else the refusal.
+abbrev pub require : {A : Type 0} → Bool → Refusal → Result A → Result A
+require test why r = pick test r (refused why)
 
 -- The result of going on with a value; a refusal stays.
 abbrev pub andThen : {A B : Type 0} → Result A → (A → Result B) → Result B
 andThen (done a) f = f a
-andThen (refused n) f = refused n
+andThen (refused why) f = refused why
 
 -- The bytes of a done value; a refusal has none.
 abbrev pub bytes : Result (List ℕ) → List ℕ
 bytes (done b) = b
-bytes (refused n) = []
+bytes (refused why) = []
 
 -- The value of n bytes; a refusal's is zeros.
 abbrev pub fixed : ℕ → Result (List ℕ) → List ℕ
 fixed n (done b) = b
-fixed n (refused k) = replicate n 0
-
--- The result that an answer by value stands for.
-unfoldable pub answerOf : ℕ → List ℕ → Result (List ℕ)
-answerOf num value = pick (eqb num 0) (done value) (refused num)
+fixed n (refused why) = replicate n 0
 
 -- A done value that is longer than the room lent for it is refused.
 abbrev pub lend : ℕ → Result (List ℕ) → Result (List ℕ)
 lend room (done b) = require (leb (length b) room) shortBuffer (done b)
-lend room (refused n) = refused n
+lend room (refused why) = refused why
 
 -- Lent memory afterwards: the value from its start, then the old bytes.
 abbrev pub over : List ℕ → List ℕ → List ℕ

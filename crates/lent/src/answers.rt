@@ -2,37 +2,39 @@
 use crate::numbers::DONE;
 use crate::words;
 ghost use mathlib.Core.Path.{_≡_};
-ghost use Rattle.lent.specs.Result.{Answered, done, refused};
+ghost use lib.ListN.{replicate};
+ghost use Rattle.lent.specs.Result.{Answered, done};
 ghost use Rattle.lent.specs.Words.{wordBytes};
 
-// A value was written into lent memory: 0 and its length, or the refusal's number and 0.
-pub struct Length {
-    pub number: u8,
+// A value was written into lent memory: 0 and its length, or the refusal's number and 0. It crosses to C as it is.
+#[repr(C)]
+pub struct Answer {
+    pub number: u32,
     pub length: usize,
 }
 
 // A value of eight bytes: 0 and the value, or the refusal's number and zeros.
 pub struct Block {
-    pub number: u8,
+    pub number: u32,
     pub value: [u8; 8],
 }
 
 // A value of sixteen bytes: 0 and the value, or the refusal's number and zeros.
 pub struct DoubleBlock {
-    pub number: u8,
+    pub number: u32,
     pub value: [u8; 16],
 }
 
 // The refusal of a value that was to be written.
-pub fn refused_length(number: u8) -> Length
+pub fn refused(number: u32) -> Answer
     ensures { λ r. ⌜ r ≡ record { number = number; length = 0 } ⌝ }
 {
-    Length { number, length: 0 }
+    Answer { number, length: 0 }
 }
 
 // The refusal of a value of eight bytes.
-pub fn refused_block(number: u8) -> Block
-    ensures { λ r. ⌜ Answered 8 (refused number) (r .number) (r .value) ⌝ }
+pub fn refused_block(number: u32) -> Block
+    ensures { λ r. ⌜ r ≡ record { number = number; value = replicate 8 0 } ⌝ }
 {
     Block {
         number,
@@ -41,8 +43,8 @@ pub fn refused_block(number: u8) -> Block
 }
 
 // The refusal of a value of sixteen bytes.
-pub fn refused_double_block(number: u8) -> DoubleBlock
-    ensures { λ r. ⌜ Answered 16 (refused number) (r .number) (r .value) ⌝ }
+pub fn refused_double_block(number: u32) -> DoubleBlock
+    ensures { λ r. ⌜ r ≡ record { number = number; value = replicate 16 0 } ⌝ }
 {
     DoubleBlock {
         number,

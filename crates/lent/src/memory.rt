@@ -1,13 +1,13 @@
 // Writing into lent memory.
-use crate::answers::Length;
-use crate::answers::refused_length;
+use crate::answers::Answer;
+use crate::answers::refused;
 use crate::numbers::DONE;
 use crate::numbers::SHORT_BUFFER;
 use crate::words::bytes_of;
 ghost use mathlib.Core.Path.{_≡_};
 ghost use Prim.Native.Nat.{_≤_};
 ghost use lib.ListN.{length};
-ghost use Rattle.lent.specs.Appended.{Appended};
+ghost use Rattle.lent.specs.Appending.{appending};
 ghost use Rattle.lent.specs.Result.{Written, done, over};
 ghost use Rattle.lent.specs.Words.{wordBytes};
 
@@ -24,37 +24,40 @@ fn copy(to: &mut [u8], from: &[u8])
 }
 
 // Writes a value into lent memory: 13 where the memory is shorter.
-pub fn lend(value: &[u8], out: &mut [u8]) -> Length
+pub fn lend(value: &[u8], out: &mut [u8]) -> Answer
     ensures { λ r. ⌜ Written (done (now (value .entry))) (now (out .entry)) (r .number) (r .length) (now (out .exit)) ⌝ }
 {
     if value.len() > out.len() {
-        return refused_length(SHORT_BUFFER);
+        return refused(SHORT_BUFFER);
     }
     copy(out, value);
-    Length {
+    Answer {
         number: DONE,
         length: value.len(),
     }
 }
 
 // Writes the eight bytes of a word into lent memory: 13 where the memory is shorter.
-pub fn lend_word(x: u64, out: &mut [u8]) -> Length
+pub fn lend_word(x: u64, out: &mut [u8]) -> Answer
     ensures { λ r. ⌜ Written (done (wordBytes x)) (now (out .entry)) (r .number) (r .length) (now (out .exit)) ⌝ }
 {
     let bytes = bytes_of(x);
     lend(&bytes, out)
 }
 
-// Writes a value behind the first n bytes of lent memory and gives how many there are then: n where there is no room, and nothing is written.
-pub fn append(out: &mut [u8], n: usize, value: &[u8]) -> usize
-    ensures { λ r. ⌜ Appended (now (value .entry)) (now (out .entry)) (now (out .exit)) n r ⌝ }
+// Writes a value into lent memory after its first n bytes, and answers how many there are then: 13 where the memory is shorter.
+pub fn append(out: &mut [u8], n: usize, value: &[u8]) -> Answer
+    ensures { λ r. ⌜ Written (appending (now (value .entry)) (now (out .entry)) n) (now (out .entry)) (r .number) (r .length) (now (out .exit)) ⌝ }
 {
     if out.len() < n {
-        return n;
+        return refused(SHORT_BUFFER);
     }
     if out.len() - n < value.len() {
-        return n;
+        return refused(SHORT_BUFFER);
     }
     copy(&mut out[n..], value);
-    n + value.len()
+    Answer {
+        number: DONE,
+        length: n + value.len(),
+    }
 }

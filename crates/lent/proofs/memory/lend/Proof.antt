@@ -7,8 +7,8 @@ use lib.ListN.{length}
 use Rattle.lent.proofs.memory.lend.Statement.{statement}
 use Rattle.lent.proofs.memory.lend.Tie as tie
 
-refused-length-requires : tie.Need-refused-length-requires
-refused-length-requires c κs = search needs
+refused-requires : tie.Need-refused-requires
+refused-requires c κs = search needs
 
 returns : tie.Need-returns
 returns c =
@@ -30,4 +30,4 @@ returns-2 c =
 
 pub lend-spec : {M : Type 1} → statement M
 lend-spec =
-    tie.close (tie.spec refused-length-requires returns copy-requires same-length returns-2)
+    tie.close (tie.spec refused-requires returns copy-requires same-length returns-2)

@@ -1,4 +1,4 @@
--- `word_of` meets its contract.
+-- `from_bytes` meets its contract.
 use borrow.Author.Needs.{needs}
 use mathlib.Core.Path.{_≡_, refl}
 use Prim.Native.Nat.{ℕ, _≤_, _<_, _-_, _^_}
@@ -7,14 +7,14 @@ use native.Mathlib.Numerals.{add-one}
 use native.Mathlib.Omega.{arith}
 use lib.Dec.{lit<}
 use Rattle.lent.specs.Words.{fromBase}
-use Rattle.lent.proofs.words.word_of.Statement.{statement}
-use Rattle.lent.proofs.words.word_of.Tie as tie
+use Rattle.lent.proofs.words.from_bytes.Statement.{statement}
+use Rattle.lent.proofs.words.from_bytes.Tie as tie
 
 abbrev Inv-loop : tie.InvT-loop
-Inv-loop s x₀ i₀ x i = (i ≤ 8) × (x < 256 ^ i) × (x ≡ fromBase 256 i s)
+Inv-loop s n x₀ i₀ x i = (i ≤ n) × (x < 256 ^ i) × (x ≡ fromBase 256 i s)
 
 abbrev μ-loop : tie.MeasureT-loop
-μ-loop s x₀ i₀ x i = 8 - i
+μ-loop s n x₀ i₀ x i = n - i
 
 loop-holds : tie.Need-loop-holds Inv-loop μ-loop
 unfolding fromBase
@@ -43,10 +43,10 @@ loop-again c =
     (omega arith, rw (add-one (l .i), pow-suc 256 (l .i)) (omega arith), rw (add-one (l .i)) (cc))
 
 returns : tie.Need-returns Inv-loop μ-loop
-returns c = let e : c .before .loop .i ≡ 8 = omega arith in rw e at (c .before .loop .inv .2)
+returns c = let e : c .before .loop .i ≡ c .before .before .before .args .n = omega arith in (rw e at (c .before .loop .inv .2), rw e at (c .before .loop .inv .1))
 
-pub word-of-spec : {M : Type 1} → statement M
-word-of-spec =
+pub from-bytes-spec : {M : Type 1} → statement M
+from-bytes-spec =
     tie.close
     (tie.spec
     Inv-loop
