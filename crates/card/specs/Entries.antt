@@ -6,7 +6,7 @@ use lib.ListN.{length}
 use Rattle.lent.specs.CardNumbers.{cardSize}
 use Rattle.lent.specs.Choice.{all, between}
 use Rattle.lent.specs.Characters.{digit}
-use Rattle.lent.specs.Numbers.{size, character}
+use Rattle.lent.specs.Refusals.{size, character}
 use Rattle.lent.specs.Result.{Result, done, require, andThen}
 use Rattle.lent.specs.Words.{word, wordBytes}
 use Rattle.card.specs.Cryptograms.{arqcWord, arpcWord}

@@ -7,7 +7,7 @@ use mathlib.Core.List.{List}
 use Prim.Native.Nat.{ℕ, _≤_, _<_}
 use native.Mathlib.Omega.{arith}
 use lib.ListN.{length, getD}
-use Rattle.lent.specs.Numbers as numbers
+use Rattle.lent.specs.Refusals as numbers
 use Rattle.lent.specs.Result.{done, refused, Written, answerOf}
 use Rattle.lent.proofs.Bases.{to-length}
 use Rattle.host.proofs.Laws.{length-with}

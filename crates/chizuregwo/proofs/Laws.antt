@@ -11,7 +11,7 @@ use lib.Dec.{eqb, lit<}
 use lib.ListN.{length, getD, take, drop, replicate, length-append, length-drop, take-append-drop, drop-of-length-le}
 use lib.Seq.{take-at, drop-at, getD-at, take-add, drop-cons, length-take-le}
 use Rattle.lent.specs.Choice.{pick}
-use Rattle.lent.specs.Numbers as numbers
+use Rattle.lent.specs.Refusals as numbers
 use Rattle.lent.specs.Result.{over}
 use Rattle.lent.proofs.Bases.{Digits, to-length}
 use Rattle.registers.specs.Rule.{Running, Stopped}

@@ -6,7 +6,7 @@ use Prim.Native.Nat.{ℕ}
 use native.Mathlib.Omega.{arith}
 use lib.Dec.{leb}
 use lib.ListN.{length}
-use Rattle.lent.specs.Numbers.{size}
+use Rattle.lent.specs.Refusals.{size}
 use Rattle.lent.specs.Result.{done}
 use Rattle.lent.proofs.Results.{same-done, require-done, AtMost}
 use Rattle.keyentry.specs.KeyEntry.{keyEntry}

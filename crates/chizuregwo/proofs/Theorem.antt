@@ -12,7 +12,7 @@ use lib.Dec.{lit<, eqb, leb}
 use lib.ListN.{length, getD, take, drop, take-append-drop, List·getD-eq-default}
 use lib.Seq.{take-at}
 use Rattle.lent.specs.Choice.{both}
-use Rattle.lent.specs.Numbers.{size}
+use Rattle.lent.specs.Refusals.{size}
 use Rattle.lent.specs.Result.{done, number, fixed, over, Answered, Written}
 use Rattle.lent.specs.Words.{wordBytes}
 use Rattle.lent.proofs.Bases.{to-length}

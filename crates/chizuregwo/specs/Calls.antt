@@ -7,7 +7,7 @@ use Prim.Native.Nat.{ℕ, _≤_, _<_}
 use lib.ListN.{length}
 use Rattle.lent.specs.Result.{Result, done, andThen, over}
 use Rattle.lent.specs.Words.{wordBytes}
-use Rattle.lent.specs.Numbers as numbers
+use Rattle.lent.specs.Refusals as numbers
 use Rattle.registers.specs.Machine.{readyKey}
 use Rattle.host.specs.SerialNumber.{withCounter}
 use Rattle.host.specs.Derivation.{givenOut}

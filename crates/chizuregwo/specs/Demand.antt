@@ -6,7 +6,7 @@ use Prim.Native.Nat.{ℕ, suc, _≤_, _<_}
 use lib.ListN.{length, take}
 use Rattle.lent.specs.Result.{over, Written}
 use Rattle.lent.specs.Words.{wordBytes}
-use Rattle.lent.specs.Numbers as numbers
+use Rattle.lent.specs.Refusals as numbers
 use Rattle.registers.specs.Counters.{Nth, counterTotal}
 use Rattle.registers.specs.Trace as trace
 use Rattle.host.specs.SerialNumber.{withCounter}

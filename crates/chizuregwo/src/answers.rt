@@ -29,7 +29,7 @@ pub(crate) fn refused(number: u8) -> Answer
 }
 
 // The answer of a value that was written.
-pub(crate) fn answered(written: lent::Length) -> Answer
+pub(crate) fn answered(written: lent::Answer) -> Answer
     requires { ⌜ written .length < 2 ^ 32 ⌝ }
     ensures { λ r. ⌜ r ≡ record { number = written .number; length = written .length } ⌝ }
 {

@@ -15,7 +15,7 @@ pub extern "C" fn czg_key_entry(text: &[u8], wanted: usize, out: &mut [u8]) -> A
 {
     let entered = keyentry::key_entry(text, keyentry::Bytes(wanted), out);
     let size = entered.size;
-    answered(lent::Length {
+    answered(lent::Answer {
         number: entered.number,
         length: size.0,
     })

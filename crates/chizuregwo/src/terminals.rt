@@ -34,7 +34,7 @@ pub extern "C" fn czg_terminal_next_key(
         return refused(lent::SIZE);
     }
     if 1 < record[186] {
-        return refused(lent::RECORD);
+        return refused(lent::BAD_RECORD);
     }
     let mut block = [0u8; 8];
     let next = terminal::next_key(terminal_of(record), &mut block);

@@ -8,7 +8,7 @@ use native.Mathlib.Omega.{arith}
 use lib.Dec.{leb, eqb, lit<}
 use lib.ListN.{length, length-append, length-replicate}
 use Rattle.lent.specs.Characters.{digit, small, capitalized}
-use Rattle.lent.specs.Numbers.{size}
+use Rattle.lent.specs.Refusals.{size}
 use Rattle.lent.specs.Result.{done, lend}
 use Rattle.lent.proofs.Laws.{cases, between-true}
 use Rattle.lent.proofs.Results.{Numbered, done-numbered, require-numbered}

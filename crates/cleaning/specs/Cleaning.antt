@@ -6,7 +6,7 @@ use lib.Dec.{leb, eqb}
 use lib.ListN.{length}
 use Rattle.lent.specs.Choice.{both, either, pick, only}
 use Rattle.lent.specs.Characters.{capital, digit, capitalized}
-use Rattle.lent.specs.Numbers.{size}
+use Rattle.lent.specs.Refusals.{size}
 use Rattle.lent.specs.Result.{Result, done, require}
 
 -- only 20 hex is a space

@@ -52,11 +52,11 @@ fn write_cleaned(text: &[u8], out: &mut [u8]) -> usize
 }
 
 // Cleans a text of at most 1,024 bytes into lent memory: 6, 13.
-pub fn clean(text: &[u8], out: &mut [u8]) -> lent::Length
+pub fn clean(text: &[u8], out: &mut [u8]) -> lent::Answer
     ensures { λ r. ⌜ Written (Cleaning.cleanText (now (text .entry))) (now (out .entry)) (r .number) (r .length) (now (out .exit)) ⌝ }
 {
     if text.len() > 1024 {
-        return lent::refused_length(lent::SIZE);
+        return lent::refused(lent::SIZE);
     }
     let mut room = [0u8; 1024];
     let n = write_cleaned(text, &mut room);

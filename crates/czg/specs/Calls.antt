@@ -2,7 +2,7 @@
 use mathlib.Core.List.{List, [], _∷_}
 use Prim.Native.Nat.{ℕ, _%_}
 use lib.ListN.{getD}
-use Rattle.lent.specs.Numbers.{size}
+use Rattle.lent.specs.Refusals.{size}
 use Rattle.lent.specs.Result.{Result, refused}
 use Rattle.keyed.specs.Keyed.{encipherBlock, decipherBlock}
 use Rattle.keyentry.specs.KeyEntry.{keyEntry}

@@ -91,7 +91,7 @@ fn host_word(derivation: &[u8], serial: [u8; 10]) -> u64 {
 }
 
 // Writes what was seen, and how the call after the last key was answered, up to the first write that fails.
-fn report(seen: Seen, number: u8) -> bool {
+fn report(seen: Seen, number: u32) -> bool {
     count_line(b"keys ", seen.keys)
         && count_line(b"differed from the host ", seen.differed)
         && key_line(b"first ", seen.first, seen.first_counter)

@@ -8,7 +8,7 @@ use Prim.Native.Nat.{ℕ}
 use native.Mathlib.Omega.{arith}
 use lib.Dec.{eqb}
 use lib.ListN.{length}
-use Rattle.lent.specs.Numbers.{size, equalHalves}
+use Rattle.lent.specs.Refusals.{size, equalHalves}
 use Rattle.lent.specs.Result.{Result, done, refused, number}
 use Rattle.lent.specs.Words.{wordBytes}
 use Rattle.lent.proofs.Laws.{cases}

@@ -11,7 +11,7 @@ use native.Mathlib.Decide.{decLt}
 use lib.Dec.{lit<}
 use lib.ListN.{length, getD, take, drop, length-take, length-drop, take-append-drop, List·getD-eq-default}
 use lib.Seq.{getD-take, getD-drop}
-use Rattle.lent.specs.Numbers.{size, equalHalves, badCounter}
+use Rattle.lent.specs.Refusals.{size, equalHalves, badCounter}
 use Rattle.lent.specs.Result.{Result, done}
 use Rattle.lent.specs.Words.{word, wordBytes, fromBase}
 use Rattle.lent.proofs.Bases.{Digits, to-from}

@@ -6,7 +6,7 @@ use Prim.Native.Nat.{ℕ}
 use lib.Dec.{eqb}
 use lib.ListN.{length}
 use Rattle.lent.specs.Choice.{both}
-use Rattle.lent.specs.Numbers.{size, equalHalves, badCounter}
+use Rattle.lent.specs.Refusals.{size, equalHalves, badCounter}
 use Rattle.lent.specs.Result.{Result, done, require}
 use Rattle.lent.specs.Words.{left, right, wordBytes}
 use Rattle.registers.specs.Counters.{permitted?}

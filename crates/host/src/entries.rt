@@ -55,7 +55,7 @@ pub fn host_key(derivation: &[u8], serial: &[u8]) -> lent::Block
     }
     let counter = counter_of(serial);
     if !registers::permitted(counter) {
-        return lent::refused_block(lent::COUNTER);
+        return lent::refused_block(lent::BAD_COUNTER);
     }
     let initial = initial_word(derivation, serial);
     let key = register_key(initial, cleared_tail(serial), counter);

@@ -4,7 +4,7 @@ use mathlib.Core.List.{List}
 use Prim.Native.Nat.{ℕ, _^_, _<_}
 use lib.Dec.{eqb}
 use lib.ListN.{length}
-use Rattle.lent.specs.Numbers.{size}
+use Rattle.lent.specs.Refusals.{size}
 use Rattle.lent.specs.Result.{done, require}
 use Rattle.lent.specs.Words.{word, left, right, wordBytes}
 use Rattle.lent.proofs.Laws.{cases}

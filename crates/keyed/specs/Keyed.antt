@@ -6,7 +6,7 @@ use lib.Dec.{eqb}
 use lib.ListN.{length}
 use Rattle.lent.specs.Choice.{pick}
 use Rattle.lent.specs.Keys.{keySizes}
-use Rattle.lent.specs.Numbers.{size}
+use Rattle.lent.specs.Refusals.{size}
 use Rattle.lent.specs.Result.{Result, done, require}
 use Rattle.lent.specs.Words.{word, left, right, wordBytes}
 use Rattle.cipher.specs.Des.{encrypted, decrypted}

@@ -8,7 +8,7 @@ use native.Mathlib.Omega.{arith}
 use lib.Dec.{eqb}
 use lib.ListN.{length}
 use Rattle.lent.specs.Choice.{all}
-use Rattle.lent.specs.Numbers.{size, character}
+use Rattle.lent.specs.Refusals.{size, character}
 use Rattle.lent.specs.Result.{done, refused, number}
 use Rattle.lent.proofs.Laws.{cases, never}
 use Rattle.keyentry.specs.Hexadecimal.{hexadecimal}

@@ -6,7 +6,7 @@ use lib.Dec.{eqb}
 use lib.ListN.{length}
 use Rattle.lent.specs.Choice.{all}
 use Rattle.lent.specs.Keys.{keySizes}
-use Rattle.lent.specs.Numbers.{size, character}
+use Rattle.lent.specs.Refusals.{size, character}
 use Rattle.lent.specs.Result.{Result, done, require}
 use Rattle.keyentry.specs.Hexadecimal.{hexadecimal, valueOf}
 use Rattle.keyentry.specs.declared.units.Bytes.{Bytes}

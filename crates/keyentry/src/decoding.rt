@@ -42,17 +42,17 @@ fn put_bytes(text: &[u8], size: Bytes, out: &mut [u8])
 }
 
 // Writes the bytes of a text into lent memory: 13 where the memory is shorter.
-pub(crate) fn lend_bytes(text: &[u8], size: Bytes, out: &mut [u8]) -> lent::Length
+pub(crate) fn lend_bytes(text: &[u8], size: Bytes, out: &mut [u8]) -> lent::Answer
     requires { ⌜ length (now text) ≡ 2 * size .0 ⌝ }
     requires { ⌜ all hexadecimal (now text) ≡ true ⌝ }
     ensures { λ r. ⌜ Written (done (keyOf (now (text .entry)))) (now (out .entry)) (r .number) (r .length) (now (out .exit)) ⌝ }
 {
     let bytes = size.0;
     if bytes > out.len() {
-        return lent::refused_length(lent::SHORT_BUFFER);
+        return lent::refused(lent::SHORT_BUFFER);
     }
     put_bytes(text, size, out);
-    lent::Length {
+    lent::Answer {
         number: lent::DONE,
         length: bytes,
     }
@@ -60,14 +60,14 @@ pub(crate) fn lend_bytes(text: &[u8], size: Bytes, out: &mut [u8]) -> lent::Leng
 
 // Writes the bytes of a text of any size: 6 where it does not have two digits for each byte, 7 where a character is not hexadecimal, 13 where the
 // buffer is shorter than the bytes.
-pub fn text_bytes(text: &[u8], out: &mut [u8]) -> lent::Length
+pub fn text_bytes(text: &[u8], out: &mut [u8]) -> lent::Answer
     ensures { λ r. ⌜ Written (textBytes (now (text .entry))) (now (out .entry)) (r .number) (r .length) (now (out .exit)) ⌝ }
 {
     if text.len() % 2 != 0 {
-        return lent::refused_length(lent::SIZE);
+        return lent::refused(lent::SIZE);
     }
     if !all_hexadecimal(text) {
-        return lent::refused_length(lent::CHARACTER);
+        return lent::refused(lent::CHARACTER);
     }
     lend_bytes(text, Bytes(text.len() / 2), out)
 }

@@ -11,7 +11,7 @@ ghost use Rattle.keyentry.specs.KeyEntry.{keySize, keyEntry};
 
 // The answer of key entry: 0 and the key's size, or the refusal's number and 0.
 pub struct Entered {
-    pub number: u8,
+    pub number: u32,
     pub size: Bytes,
 }
 

@@ -11,6 +11,9 @@ use lib.Seq.{take-append-seam}
 use Rattle.lent.proofs.Laws.{cases, never}
 use Rattle.lent.specs.Refusals.{Refusal, numberOf, cutShort, fieldOrder, messageType, fieldForm, emptyText, size, character, noSuchPin, equalHalves, badCounter, badRecord, exhausted, shortBuffer}
 use Rattle.lent.specs.Result.{Result, done, refused, number, require, andThen, bytes, fixed, lend, over, Answered, Written}
+use Rattle.lent.specs.declared.answers.Answer.{Answer}
+use Rattle.lent.specs.declared.answers.Block.{Block}
+use Rattle.lent.specs.declared.answers.DoubleBlock.{DoubleBlock}
 
 -- no refusal has the number 0
 pub not-zero : (why : Refusal) → numberOf why ≡ 0 → ⊥
@@ -43,6 +46,10 @@ pub then-done : {A B : Type 0} (r : Result A) (f : A → Result B) (b : B) → a
 then-done (done a) f b e = (a, refl, e)
 then-done (refused why) f b e = never (cc)
 
+-- The answer is a refusal with that number.
+abbrev pub Refuses : {A : Type 0} → ℕ → Result A → Type 0
+Refuses num answer = (why : Refusal) × (num ≡ numberOf why) × (answer ≡ refused why)
+
 -- ---- answers by value
 
 -- With the number 0 the result is the value; with any other it is a refusal, which stays in what goes on from it.
@@ -51,16 +58,25 @@ answered-done n (done b) a z = ap done (sym (a .value))
 answered-done n (refused why) a z = absurd (not-zero why (sym (a .number) ∙ z))
 
 pub answered-refused : {B : Type 0} (n : ℕ) (answer : Result (List ℕ)) {num : ℕ} {val : List ℕ} (f : List ℕ → Result B)
-    → Answered n answer num val → (num ≡ 0 → ⊥) → (why : Refusal) × (num ≡ numberOf why) × (andThen answer f ≡ refused why)
+    → Answered n answer num val → (num ≡ 0 → ⊥) → Refuses num (andThen answer f)
 answered-refused n (done b) f a h = absurd (h (a .number))
 answered-refused n (refused why) f a h = (why, a .number, refl)
+
+-- what is answered for a refusal
+pub refused-block : {answer : Result (List ℕ)} {num : ℕ} {r : Block}
+    → r ≡ record { number = num; value = replicate 8 0 } → Refuses num answer → Answered 8 answer (r .number) (r .value)
+refused-block h (why, en, e) = rw (h, en, e) (record { number = refl; value = refl })
+
+pub refused-double-block : {answer : Result (List ℕ)} {num : ℕ} {r : DoubleBlock}
+    → r ≡ record { number = num; value = replicate 16 0 } → Refuses num answer → Answered 16 answer (r .number) (r .value)
+refused-double-block h (why, en, e) = rw (h, en, e) (record { number = refl; value = refl })
 
 -- ---- lent memory
 
 -- a refusal leaves no length, and lent memory as it was
-pub refused-written : {answer : Result (List ℕ)} {before : List ℕ} {num len : ℕ} (why : Refusal)
-    → answer ≡ refused why → num ≡ numberOf why → len ≡ 0 → Written answer before num len before
-refused-written why e en el = rw (e, en, el) (record { number = refl; value = refl; memory = refl })
+pub refused-answer : {answer : Result (List ℕ)} {before : List ℕ} {num : ℕ} {r : Answer}
+    → r ≡ record { number = num; length = 0 } → Refuses num answer → Written answer before (r .number) (r .length) before
+refused-answer h (why, en, e) = rw (h, en, e) (record { number = refl; value = refl; memory = refl })
 
 -- What a call wrote: a value that is done, or the number of a refusal.
 module _ {answer : Result (List ℕ)} {before after : List ℕ} {num len : ℕ} (w : Written answer before num len after) where
@@ -84,11 +100,10 @@ module _ {answer : Result (List ℕ)} {before after : List ℕ} {num len : ℕ} 
           (rw (el, ea) (e ∙ ap done (sym (take-append-seam v (drop (length v) before)))), rw (el, ea, length-append) (omega arith))
 
   -- with any other number and room for every value, the answer is a refusal, which stays in what goes on from it
-  pub written-refused : {B : Type 0} (f : List ℕ → Result B) → lend (length before) answer ≡ answer → (num ≡ 0 → ⊥)
-      → (why : Refusal) × (num ≡ numberOf why) × (andThen answer f ≡ refused why)
+  pub written-refused : {B : Type 0} (f : List ℕ → Result B) → lend (length before) answer ≡ answer → (num ≡ 0 → ⊥) → Refuses num (andThen answer f)
   written-refused f room h = decided answer refl
     where
-      decided : (r : Result (List ℕ)) → answer ≡ r → (why : Refusal) × (num ≡ numberOf why) × (andThen answer f ≡ refused why)
+      decided : (r : Result (List ℕ)) → answer ≡ r → Refuses num (andThen answer f)
       decided (done v) e = absurd (h (w .number ∙ ap number (room ∙ e)))
       decided (refused why) e = (why, w .number ∙ ap number (room ∙ e), rw e)
 

@@ -7,7 +7,7 @@ use Prim.Native.Nat.{ℕ, _≤_}
 use native.Mathlib.Omega.{arith}
 use lib.Dec.{eqb, ltb, lit<}
 use lib.ListN.{length}
-use Rattle.lent.specs.Numbers.{emptyText}
+use Rattle.lent.specs.Refusals.{emptyText}
 use Rattle.lent.specs.Result.{done}
 use Rattle.lent.proofs.Results.{Numbered, done-numbered, require-numbered, then-numbered, size-numbered}
 use Rattle.cleaning.specs.Cleaning.{cleanText}

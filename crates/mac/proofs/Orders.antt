@@ -4,7 +4,7 @@ use mathlib.Core.Path.{_≡_}
 use mathlib.Core.List.{List}
 use Prim.Native.Nat.{ℕ, _<_, _≤_}
 use lib.ListN.{length}
-use Rattle.lent.specs.Numbers.{size, emptyText}
+use Rattle.lent.specs.Refusals.{size, emptyText}
 use Rattle.lent.specs.Result.{done, refused}
 use Rattle.cleaning.specs.Cleaning.{cleanText}
 use Rattle.message.specs.Text.{messageText}

@@ -4,7 +4,7 @@ use mathlib.Core.List.{List}
 use Prim.Native.Nat.{ℕ}
 use lib.Dec.{eqb, ltb}
 use lib.ListN.{length}
-use Rattle.lent.specs.Numbers.{size, emptyText}
+use Rattle.lent.specs.Refusals.{size, emptyText}
 use Rattle.lent.specs.Result.{Result, done, require, andThen}
 use Rattle.lent.specs.Words.{word, wordBytes}
 use Rattle.chaining.specs.Chain.{chained}

@@ -6,7 +6,7 @@ use Prim.Native.Nat.{ℕ}
 use lib.ListN.{replicate}
 use Rattle.lent.specs.Characters.{digitOf}
 use Rattle.lent.specs.Choice.{pick}
-use Rattle.lent.specs.Numbers as numbers
+use Rattle.lent.specs.Refusals as numbers
 use Rattle.lent.specs.Result.{Result, done, refused, bytes, number}
 use Rattle.lent.specs.Words.{toBase, wordBytes}
 use Rattle.cleaning.specs.Cleaning.{cleanText}

@@ -10,7 +10,7 @@ use lib.Dec.{leb, ltb, lit<}
 use lib.ListN.{length, length-append}
 use Rattle.lent.specs.Choice.{between}
 use Rattle.lent.specs.Characters.{digit}
-use Rattle.lent.specs.Numbers.{cutShort, fieldOrder, fieldForm, messageType, size}
+use Rattle.lent.specs.Refusals.{cutShort, fieldOrder, fieldForm, messageType, size}
 use Rattle.lent.specs.Result.{Result, done, refused, lend}
 use Rattle.lent.proofs.Laws.{both-true, between-true}
 use Rattle.cleaning.specs.Cleaning.{cleaned}

@@ -5,7 +5,7 @@ use Prim.Native.Nat.{ℕ, zero, suc, _+_, _*_}
 use lib.Dec.{leb, ltb, eqb}
 use lib.ListN.{length, take, drop, getD}
 use Rattle.lent.specs.Choice.{both, either, between}
-use Rattle.lent.specs.Numbers.{cutShort, fieldOrder, fieldForm, messageType, size}
+use Rattle.lent.specs.Refusals.{cutShort, fieldOrder, fieldForm, messageType, size}
 use Rattle.lent.specs.Result.{Result, done, require, andThen}
 use Rattle.message.specs.Fields.{rule, formed}
 

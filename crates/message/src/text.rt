@@ -65,15 +65,15 @@ fn append_field(raw: &mut [u8], n: usize, rule: Rule, body: &[u8]) -> usize
 }
 
 // Gathers the listed fields of a message, each with a space before it: 6, then record by record 1, 2, 4, 3.
-fn gather(message: &[u8], raw: &mut [u8]) -> lent::Length
+fn gather(message: &[u8], raw: &mut [u8]) -> lent::Answer
     requires { ⌜ length (now raw) ≡ 167 ⌝ }
     ensures { λ r. ⌜ Gathered.Outcome (Gathered.gathered (now (message .entry))) (r .number) (r .length) (now (raw .exit)) ⌝ }
 {
     if message.len() > 4096 {
-        return lent::refused_length(lent::SIZE);
+        return lent::refused(lent::SIZE);
     }
     if message.len() == 0 {
-        return lent::refused_length(lent::CUT_SHORT);
+        return lent::refused(lent::CUT_SHORT);
     }
     let mut n: usize = 0;
     let mut at: usize = 0;
@@ -83,7 +83,7 @@ fn gather(message: &[u8], raw: &mut [u8]) -> lent::Length
         let rest = &message[at..];
         let number = records::refusal(rest, lowest, highest);
         if number != lent::DONE {
-            return lent::refused_length(number);
+            return lent::refused(number);
         }
         let field = records::field_number(rest);
         let end = 4 + records::body_size(rest);
@@ -92,21 +92,21 @@ fn gather(message: &[u8], raw: &mut [u8]) -> lent::Length
         lowest = field + 1;
         highest = records::HIGHEST_FIELD;
     }
-    lent::Length {
+    lent::Answer {
         number: lent::DONE,
         length: n,
     }
 }
 
 // Writes a message's MAC text into lent memory: 6, then record by record 1, 2, 4, 3, then 13.
-pub fn message_text(message: &[u8], out: &mut [u8]) -> lent::Length
+pub fn message_text(message: &[u8], out: &mut [u8]) -> lent::Answer
     ensures { λ r. ⌜ Written (Text.messageText (now (message .entry))) (now (out .entry)) (r .number) (r .length) (now (out .exit)) ⌝ }
 {
     let mut raw = [0u8; 167];
     let gathered = gather(message, &mut raw);
     let number = gathered.number;
     if number != lent::DONE {
-        return lent::refused_length(number);
+        return lent::refused(number);
     }
     let n = gathered.length;
     cleaning::clean(&raw[..n], out)

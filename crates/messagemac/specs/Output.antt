@@ -6,7 +6,7 @@ use lib.Dec.{leb, ltb}
 use lib.ListN.{length, take, drop}
 use Rattle.lent.specs.Choice.{pick}
 use Rattle.lent.specs.Characters.{digitOf}
-use Rattle.lent.specs.Numbers.{size}
+use Rattle.lent.specs.Refusals.{size}
 use Rattle.lent.specs.Result.{Result, done, refused, require, andThen}
 use Rattle.keyentry.specs.Hexadecimal.{textOf}
 use Rattle.message.specs.Text.{twoDigits, messageText}

@@ -11,7 +11,7 @@ ghost use Rattle.messagemac.specs.Output;
 ghost use Rattle.messagemac.specs.Output.{decimal, lines, Made};
 
 // Appends a number below 100 in decimal.
-fn append_decimal(out: &mut [u8], n: usize, number: u8) -> usize
+fn append_decimal(out: &mut [u8], n: usize, number: u32) -> usize
     ensures { λ r. ⌜ Appended (decimal number) (now (out .entry)) (now (out .exit)) n r ⌝ }
 {
     if number < 10 {
@@ -38,7 +38,7 @@ fn append_digits(out: &mut [u8], n: usize, mac: [u8; 8]) -> usize
 }
 
 // Makes the line of a refusal.
-fn refusal(number: u8, out: &mut [u8]) -> usize
+fn refusal(number: u32, out: &mut [u8]) -> usize
     requires { ⌜ length (now out) ≡ 184 ⌝ }
     ensures { λ r. ⌜ Made (lines (refused number)) (now (out .exit)) r ⌝ }
 {

@@ -10,7 +10,7 @@ use lib.ListN.{length}
 use Rattle.lent.specs.CardNumbers.{cardSize}
 use Rattle.lent.specs.Choice.{all}
 use Rattle.lent.specs.Characters.{digit}
-use Rattle.lent.specs.Numbers.{size, character}
+use Rattle.lent.specs.Refusals.{size, character}
 use Rattle.lent.specs.Result.{Result, done, andThen}
 use Rattle.lent.specs.Words.{word, wordBytes}
 use Rattle.lent.proofs.Laws.{both-true}

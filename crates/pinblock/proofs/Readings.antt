@@ -12,7 +12,7 @@ use lib.Seq.{length-take-le, take-at, drop-at, take-all}
 use Rattle.lent.proofs.Lists.{all-map, all-replicate}
 use Rattle.lent.specs.Choice.{both, between, all}
 use Rattle.lent.specs.Characters.{digit, digitValue, digitOf}
-use Rattle.lent.specs.Numbers.{noSuchPin}
+use Rattle.lent.specs.Refusals.{noSuchPin}
 use Rattle.lent.specs.Result.{done, refused}
 use Rattle.lent.specs.Words.{fromBase, toBase}
 use Rattle.lent.proofs.Laws.{cases, both-true, between-true, within}

@@ -5,7 +5,7 @@ use lib.Dec.{eqb}
 use lib.ListN.{getD, take, drop}
 use Rattle.lent.specs.Characters.{digitOf}
 use Rattle.lent.specs.Choice.{both}
-use Rattle.lent.specs.Numbers.{noSuchPin}
+use Rattle.lent.specs.Refusals.{noSuchPin}
 use Rattle.lent.specs.Result.{Result, done, require}
 use Rattle.lent.specs.Words.{toBase}
 use Rattle.pinblock.specs.Pin.{permitted, pinBlock}

@@ -5,7 +5,7 @@ use mathlib.Core.List.{List}
 use Prim.Native.Nat.{ℕ}
 use lib.ListN.{length}
 use Rattle.lent.specs.Choice.{all}
-use Rattle.lent.specs.Numbers.{noSuchPin}
+use Rattle.lent.specs.Refusals.{noSuchPin}
 use Rattle.lent.specs.Result.{Result, done, refused}
 use Rattle.lent.specs.Words.{byte}
 use Rattle.pinblock.specs.Pin.{permitted}

@@ -38,12 +38,12 @@ pub fn encipher_with_card(pin: &[u8], card: &[u8], key: &[u8]) -> lent::Block
 
 // The PIN of an enciphered block: 6 where the block has not 8 bytes or the key not 8 or 16, 8 where the block comes from no
 // permitted PIN, 13 where the memory is shorter than the PIN.
-pub fn decipher(block: &[u8], key: &[u8], out: &mut [u8]) -> lent::Length
+pub fn decipher(block: &[u8], key: &[u8], out: &mut [u8]) -> lent::Answer
     ensures { λ r. ⌜ Written (Entries.decipher (now (block .entry)) (now (key .entry))) (now (out .entry)) (r .number) (r .length) (now (out .exit)) ⌝ }
 {
     let deciphered = keyed::decipher_block(key, block);
     if deciphered.number != lent::DONE {
-        return lent::refused_length(deciphered.number);
+        return lent::refused(deciphered.number);
     }
     let value = deciphered.value;
     read(&value, out)
@@ -52,12 +52,12 @@ pub fn decipher(block: &[u8], key: &[u8], out: &mut [u8]) -> lent::Length
 // The PIN of an enciphered block with a card number: 6 where the block has not 8 bytes, the key not 8 or 16 or the card number not 13
 // to 19 characters, 7 where one of these is not a digit, 8 where the block comes from no permitted PIN, 13 where the memory is
 // shorter than the PIN.
-pub fn decipher_with_card(block: &[u8], card: &[u8], key: &[u8], out: &mut [u8]) -> lent::Length
+pub fn decipher_with_card(block: &[u8], card: &[u8], key: &[u8], out: &mut [u8]) -> lent::Answer
     ensures { λ r. ⌜ Written (Entries.decipherWithCard (now (block .entry)) (now (card .entry)) (now (key .entry))) (now (out .entry)) (r .number) (r .length) (now (out .exit)) ⌝ }
 {
     let deciphered = keyed::decipher_block(key, block);
     if deciphered.number != lent::DONE {
-        return lent::refused_length(deciphered.number);
+        return lent::refused(deciphered.number);
     }
     let value = deciphered.value;
     read_with_card(&value, card, out)

@@ -47,11 +47,11 @@ fn text_of(block: u64, count: usize) -> [u8; 12]
 }
 
 // The PIN of a clear block's word: 8 where it comes from no permitted PIN, 13 where the memory is shorter than the PIN.
-fn read_block(block: u64, out: &mut [u8]) -> lent::Length
+fn read_block(block: u64, out: &mut [u8]) -> lent::Answer
     ensures { λ r. ⌜ Written (pinOf block) (now (out .entry)) (r .number) (r .length) (now (out .exit)) ⌝ }
 {
     if !well_formed(block) {
-        return lent::refused_length(lent::NO_SUCH_PIN);
+        return lent::refused(lent::NO_SUCH_PIN);
     }
     let count = half_byte(block, 1) as usize;
     let text = text_of(block, count);
@@ -60,28 +60,28 @@ fn read_block(block: u64, out: &mut [u8]) -> lent::Length
 
 // The PIN of a block: 6 where the block has not 8 bytes, 8 where it comes from no permitted PIN, 13 where the memory is shorter
 // than the PIN.
-pub fn read(block: &[u8], out: &mut [u8]) -> lent::Length
+pub fn read(block: &[u8], out: &mut [u8]) -> lent::Answer
     ensures { λ r. ⌜ Written (Entries.read (now (block .entry))) (now (out .entry)) (r .number) (r .length) (now (out .exit)) ⌝ }
 {
     if block.len() != 8 {
-        return lent::refused_length(lent::SIZE);
+        return lent::refused(lent::SIZE);
     }
     read_block(lent::word_of(block), out)
 }
 
 // The PIN of a block with a card number: 6 where the block has not 8 bytes or the card number not 13 to 19 characters, 7 where one
 // of these is not a digit, 8 where the block comes from no permitted PIN, 13 where the memory is shorter than the PIN.
-pub fn read_with_card(block: &[u8], card: &[u8], out: &mut [u8]) -> lent::Length
+pub fn read_with_card(block: &[u8], card: &[u8], out: &mut [u8]) -> lent::Answer
     ensures { λ r. ⌜ Written (Entries.readWithCard (now (block .entry)) (now (card .entry))) (now (out .entry)) (r .number) (r .length) (now (out .exit)) ⌝ }
 {
     if block.len() != 8 {
-        return lent::refused_length(lent::SIZE);
+        return lent::refused(lent::SIZE);
     }
     if !card_sized(card) {
-        return lent::refused_length(lent::SIZE);
+        return lent::refused(lent::SIZE);
     }
     if !lent::all_digits(card) {
-        return lent::refused_length(lent::CHARACTER);
+        return lent::refused(lent::CHARACTER);
     }
     read_block(lent::word_of(block) ^ card_part(card), out)
 }

@@ -10,7 +10,7 @@ use lib.Dec.{lit<, lit≤}
 use lib.Pow.{pow-lt}
 use lib.ListN.{length, getD, replicate, length-replicate}
 use lib.Count.{ones}
-use Rattle.lent.specs.Numbers as numbers
+use Rattle.lent.specs.Refusals as numbers
 use Rattle.lent.specs.Result.{Result, done, refused}
 use Rattle.registers.specs.Counters.{bit, Permitted, permittedTo, lastCounter, counterTotal, lowestPlace, nextAfter}
 use Rattle.registers.specs.Machine.{Device, filledMask, stepped, readyKey, moved, State, fill, keyAt, loaded, renewed, spent, outcome, after}

@@ -10,7 +10,7 @@ use borrow.Author.Tests.{lt-ltb, le-ltb, ne-eqb}
 use lib.ListN.{length, getD, length-set, length-replicate, getD-replicate}
 use lib.Seq.{getD-set-same, getD-set-other}
 use lib.Count.{ones}
-use Rattle.lent.specs.Numbers as numbers
+use Rattle.lent.specs.Refusals as numbers
 use Rattle.lent.specs.Result.{done, refused}
 use Rattle.registers.specs.Counters.{bit, Permitted, lastCounter, lowestPlace, nextAfter, nextCounter}
 use Rattle.registers.specs.RegisterKey.{registerKey}

@@ -6,7 +6,7 @@ use lib.Dec.{ltb, eqb}
 use lib.ListN.{getD, set, replicate}
 use lib.Count.{ones}
 use Rattle.lent.specs.Choice.{pick}
-use Rattle.lent.specs.Numbers as numbers
+use Rattle.lent.specs.Refusals as numbers
 use Rattle.lent.specs.Result.{Result, done, refused}
 use Rattle.registers.specs.Counters.{bit, lowestPlace, nextCounter}
 

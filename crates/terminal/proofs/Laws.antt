@@ -10,7 +10,7 @@ use mathlib.Core.List.{List}
 use Prim.Native.Nat.{ℕ}
 use native.Mathlib.Omega.{arith}
 use lib.ListN.{length}
-use Rattle.lent.specs.Numbers.{size, badRecord}
+use Rattle.lent.specs.Refusals.{size, badRecord}
 use Rattle.lent.specs.Result.{done, refused, number}
 use Rattle.registers.specs.Rule.{Running, Stopped}
 use Rattle.terminal.specs.Record.{dukpt, view, ValidRecord, loadedRecord, zeroRecord}

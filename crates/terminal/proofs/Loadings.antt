@@ -8,7 +8,7 @@ use native.Mathlib.Decide.{ℕ-discrete}
 use native.Mathlib.Omega.{arith}
 use lib.ListN.{length}
 use Rattle.lent.specs.Result.{done, refused, number}
-use Rattle.lent.specs.Numbers.{size}
+use Rattle.lent.specs.Refusals.{size}
 use Rattle.terminal.specs.Record.{loadedRecord, zeroRecord}
 use Rattle.terminal.specs.Promises.{loading, recordOrZero, Load}
 use Rattle.terminal.specs.declared.state.Terminal.{Terminal}

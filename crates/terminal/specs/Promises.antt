@@ -8,7 +8,7 @@ use lib.ListN.{length, replicate}
 use Rattle.lent.specs.Choice.{both, pick}
 use Rattle.lent.specs.Result.{Result, done, refused, require, over}
 use Rattle.lent.specs.Words.{wordBytes}
-use Rattle.lent.specs.Numbers as numbers
+use Rattle.lent.specs.Refusals as numbers
 use Rattle.lent.specs.Result as result
 use Rattle.registers.specs.Machine.{readyKey}
 use Rattle.host.specs.SerialNumber.{withCounter}

@@ -12,14 +12,14 @@ ghost use Rattle.terminal.specs.Promises.{Next};
 // The answer of a call for the next key: 0, the counter given out, the serial number with that counter in it, and the record after it; or the
 // refusal's number, zeros, and the record as it was.
 pub struct NextKey {
-    pub number: u8,
+    pub number: u32,
     pub counter: u32,
     pub serial: [u8; 10],
     pub terminal: Terminal,
 }
 
 // The refusal of a call for the next key.
-fn refused(number: u8, t: Terminal) -> NextKey
+fn refused(number: u32, t: Terminal) -> NextKey
     ensures { λ r. ⌜ r ≡ record { number = number; counter = 0; serial = replicate 10 0; terminal = t } ⌝ }
 {
     NextKey {
@@ -72,7 +72,7 @@ pub fn next_key(t: Terminal, out: &mut [u8]) -> NextKey
     ensures { λ r. ⌜ Next t (now (out .entry)) r (now (out .exit)) ⌝ }
 {
     if !valid(t) {
-        return refused(lent::RECORD, t);
+        return refused(lent::BAD_RECORD, t);
     }
     if t.exhausted {
         return refused(lent::EXHAUSTED, t);

@@ -2,13 +2,13 @@
 use crate::filling::filled_from;
 use crate::state::Terminal;
 ghost use mathlib.Core.Path.{_≡_};
-ghost use Rattle.lent.specs.Numbers.{size};
+ghost use Rattle.lent.specs.Refusals.{size};
 ghost use Rattle.terminal.specs.Record.{zeroRecord};
 ghost use Rattle.terminal.specs.Promises.{Load};
 
 // The answer of a loading: 0 and the record, or the refusal's number and the all-zero record.
 pub struct Loaded {
-    pub number: u8,
+    pub number: u32,
     pub terminal: Terminal,
 }
 

@@ -12,8 +12,8 @@ use Rattle.cleaning.proofs.Laws.{clean-done}
 use Rattle.cleaning.proofs.clean.Statement.{statement}
 use Rattle.cleaning.proofs.clean.Tie as tie
 
-refused-length-requires : tie.Need-refused-length-requires
-refused-length-requires c κs = search needs
+refused-requires : tie.Need-refused-requires
+refused-requires c κs = search needs
 
 returns : tie.Need-returns
 unfolding cleanText
@@ -50,7 +50,7 @@ pub clean-spec : {M : Type 1} → statement M
 clean-spec =
     tie.close
     (tie.spec
-    refused-length-requires
+    refused-requires
     returns
     slice-aggregate-write-cleaned
     write-cleaned-requires

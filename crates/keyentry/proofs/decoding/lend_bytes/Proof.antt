@@ -9,8 +9,8 @@ use Rattle.keyentry.proofs.Texts.{key-length}
 use Rattle.keyentry.proofs.decoding.lend_bytes.Statement.{statement}
 use Rattle.keyentry.proofs.decoding.lend_bytes.Tie as tie
 
-refused-length-requires : tie.Need-refused-length-requires
-refused-length-requires c κs = search needs
+refused-requires : tie.Need-refused-requires
+refused-requires c κs = search needs
 
 returns : tie.Need-returns
 returns c =
@@ -34,4 +34,4 @@ returns-2 c =
 
 pub lend-bytes-spec : {M : Type 1} → statement M
 lend-bytes-spec =
-    tie.close (tie.spec refused-length-requires returns put-bytes-requires same-length returns-2)
+    tie.close (tie.spec refused-requires returns put-bytes-requires same-length returns-2)

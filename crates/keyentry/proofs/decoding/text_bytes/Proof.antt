@@ -14,19 +14,19 @@ use Rattle.keyentry.proofs.Sizes.{odd-refused, not-hexadecimal, decoded
 use Rattle.keyentry.proofs.decoding.text_bytes.Statement.{statement}
 use Rattle.keyentry.proofs.decoding.text_bytes.Tie as tie
 
-refused-length-requires : tie.Need-refused-length-requires
-refused-length-requires c κs = search needs
+refused-requires : tie.Need-refused-requires
+refused-requires c κs = search needs
 
 returns : tie.Need-returns
 returns c =
-    refused-length (c .refused-length .result) (c .refused-length .ensures)
+    refused-length (c .refused .result) (c .refused .ensures)
     (odd-refused (c .before .before .before .before .args .text .now) (ne-eqb _ _ (c .before .if1 .taken)))
 
 all-hexadecimal-requires : tie.Need-all-hexadecimal-requires
 all-hexadecimal-requires c κs = search needs
 
-refused-length-requires-2 : tie.Need-refused-length-requires-2
-refused-length-requires-2 c κs = search needs
+refused-requires-2 : tie.Need-refused-requires-2
+refused-requires-2 c κs = search needs
 
 -- the text has two digits for each byte
 even : (c : tie.Else1) → eqb (length (c .before .before .before .args .text .now) % 2) 0 ≡ true
@@ -35,7 +35,7 @@ even c = eq-eqb _ _ (c .if1 .left)
 returns-2 : tie.Need-returns-2
 returns-2 c =
     let h = c .before .before in
-    refused-length (c .refused-length2 .result) (c .refused-length2 .ensures)
+    refused-length (c .refused2 .result) (c .refused2 .ensures)
     (not-hexadecimal _ (even (h .before)) (sym (h .all-hexadecimal .ensures) ∙ not-true _ (c .before .if2 .taken)))
 
 -- all of its characters are hexadecimal
@@ -57,10 +57,10 @@ pub text-bytes-spec : {M : Type 1} → statement M
 text-bytes-spec =
     tie.close
     (tie.spec
-    refused-length-requires
+    refused-requires
     returns
     all-hexadecimal-requires
-    refused-length-requires-2
+    refused-requires-2
     returns-2
     lend-bytes-requires
     same-length

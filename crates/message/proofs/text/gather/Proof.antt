@@ -35,8 +35,8 @@ Inv-loop message raw₀ n₀ at₀ lowest₀ highest₀ raw n at lowest highest 
 abbrev μ-loop : tie.MeasureT-loop
 μ-loop message raw₀ n₀ at₀ lowest₀ highest₀ raw n at lowest highest = length message - at
 
-refused-length-requires : tie.Need-refused-length-requires Inv-loop μ-loop
-refused-length-requires c κs = search needs
+refused-requires : tie.Need-refused-requires Inv-loop μ-loop
+refused-requires c κs = search needs
 
 returns : tie.Need-returns Inv-loop μ-loop
 unfolding gathered messageFields
@@ -44,8 +44,8 @@ returns c =
     let long : 4096 < length (c .before .before .before .before .args .message .now) = omega arith in
     refused-outcome 6 (simp (lt-leb _ _ long)) (cc) (λ z. omega arith) (cc)
 
-refused-length-requires-2 : tie.Need-refused-length-requires-2 Inv-loop μ-loop
-refused-length-requires-2 c κs = search needs
+refused-requires-2 : tie.Need-refused-requires-2 Inv-loop μ-loop
+refused-requires-2 c κs = search needs
 
 returns-2 : tie.Need-returns-2 Inv-loop μ-loop
 unfolding gathered messageFields
@@ -79,8 +79,8 @@ part-rest-end c = search needs
 refusal-requires : tie.Need-refusal-requires Inv-loop μ-loop
 refusal-requires c κs = search needs
 
-refused-length-requires-3 : tie.Need-refused-length-requires-3 Inv-loop μ-loop
-refused-length-requires-3 c κs = search needs
+refused-requires-3 : tie.Need-refused-requires-3 Inv-loop μ-loop
+refused-requires-3 c κs = search needs
 
 same-length : tie.Need-same-length Inv-loop μ-loop
 same-length c = search needs
@@ -233,16 +233,16 @@ gather-spec =
     (tie.spec
     Inv-loop
     μ-loop
-    refused-length-requires
+    refused-requires
     returns
-    refused-length-requires-2
+    refused-requires-2
     returns-2
     loop-holds
     sub-rest
     part-rest-start
     part-rest-end
     refusal-requires
-    refused-length-requires-3
+    refused-requires-3
     same-length
     returns-3
     field-number-requires

@@ -20,8 +20,8 @@ slice-aggregate-gather c = search needs
 gather-requires : tie.Need-gather-requires
 gather-requires c κs = search needs
 
-refused-length-requires : tie.Need-refused-length-requires
-refused-length-requires c κs = search needs
+refused-requires : tie.Need-refused-requires
+refused-requires c κs = search needs
 
 returns : tie.Need-returns
 unfolding answerOf
@@ -59,7 +59,7 @@ message-text-spec =
     (tie.spec
     slice-aggregate-gather
     gather-requires
-    refused-length-requires
+    refused-requires
     returns
     array-share-prefix-raw
     slice-aggregate-clean

@@ -10,14 +10,14 @@ use Rattle.pinblock.proofs.enciphered.decipher.Tie as tie
 decipher-block-requires : tie.Need-decipher-block-requires
 decipher-block-requires c κs = search needs
 
-refused-length-requires : tie.Need-refused-length-requires
-refused-length-requires c κs = search needs
+refused-requires : tie.Need-refused-requires
+refused-requires c κs = search needs
 
 returns : tie.Need-returns
 unfolding decipher
 returns c =
     let s = c .before .before .before .before .before .before .before in
-    refused-length _ (c .refused-length .ensures) (rw (refused-as (decipherBlock (s .args .key .now) (s .args .block .now)) (c .before .before .before .decipher-block .ensures .number) (c .before .if1 .taken)))
+    refused-length _ (c .refused .ensures) (rw (refused-as (decipherBlock (s .args .key .now) (s .args .block .now)) (c .before .before .before .decipher-block .ensures .number) (c .before .if1 .taken)))
 
 slice-aggregate-read : tie.Need-slice-aggregate-read
 slice-aggregate-read c = search needs
@@ -39,7 +39,7 @@ decipher-spec =
     tie.close
     (tie.spec
     decipher-block-requires
-    refused-length-requires
+    refused-requires
     returns
     slice-aggregate-read
     read-requires

@@ -6,12 +6,12 @@ use Rattle.pinblock.specs.Entries.{read}
 use Rattle.pinblock.proofs.reading.read.Statement.{statement}
 use Rattle.pinblock.proofs.reading.read.Tie as tie
 
-refused-length-requires : tie.Need-refused-length-requires
-refused-length-requires c κs = search needs
+refused-requires : tie.Need-refused-requires
+refused-requires c κs = search needs
 
 returns : tie.Need-returns
 unfolding read
-returns c = refused-length _ (c .refused-length .ensures) (simp (ne-eqb _ _ (c .before .if1 .taken)))
+returns c = refused-length _ (c .refused .ensures) (simp (ne-eqb _ _ (c .before .if1 .taken)))
 
 word-of-requires : tie.Need-word-of-requires
 word-of-requires c κs = search needs
@@ -30,7 +30,7 @@ pub read-spec : {M : Type 1} → statement M
 read-spec =
     tie.close
     (tie.spec
-    refused-length-requires
+    refused-requires
     returns
     word-of-requires
     read-block-requires

@@ -17,15 +17,15 @@ use Rattle.pinblock.proofs.reading.read_block.Tie as tie
 well-formed-requires : tie.Need-well-formed-requires
 well-formed-requires c κs = search needs
 
-refused-length-requires : tie.Need-refused-length-requires
-refused-length-requires c κs = search needs
+refused-requires : tie.Need-refused-requires
+refused-requires c κs = search needs
 
 formed : (c : tie.Else1) → wellFormed (toBase 16 16 (c .before .before .before .args .block)) ≡ true
 formed c = sym (c .before .well-formed .ensures) ∙ not-false _ (c .if1 .left)
 
 returns : tie.Need-returns
 returns c =
-    refused-length _ (c .refused-length .ensures)
+    refused-length _ (c .refused .ensures)
     (not-formed _ (sym (c .before .before .well-formed .ensures) ∙ not-true _ (c .before .if1 .taken)))
 
 half-byte-requires : tie.Need-half-byte-requires
@@ -67,7 +67,7 @@ read-block-spec =
     tie.close
     (tie.spec
     well-formed-requires
-    refused-length-requires
+    refused-requires
     returns
     half-byte-requires
     cast-count

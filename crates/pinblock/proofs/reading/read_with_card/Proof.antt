@@ -11,30 +11,30 @@ use Rattle.pinblock.specs.Entries.{readWithCard}
 use Rattle.pinblock.proofs.reading.read_with_card.Statement.{statement}
 use Rattle.pinblock.proofs.reading.read_with_card.Tie as tie
 
-refused-length-requires : tie.Need-refused-length-requires
-refused-length-requires c κs = search needs
+refused-requires : tie.Need-refused-requires
+refused-requires c κs = search needs
 
 returns : tie.Need-returns
 unfolding readWithCard
-returns c = refused-length _ (c .refused-length .ensures) (simp (ne-eqb _ _ (c .before .if1 .taken)))
+returns c = refused-length _ (c .refused .ensures) (simp (ne-eqb _ _ (c .before .if1 .taken)))
 
 card-sized-requires : tie.Need-card-sized-requires
 card-sized-requires c κs = search needs
 
-refused-length-requires-2 : tie.Need-refused-length-requires-2
-refused-length-requires-2 c κs = search needs
+refused-requires-2 : tie.Need-refused-requires-2
+refused-requires-2 c κs = search needs
 
 returns-2 : tie.Need-returns-2
 unfolding readWithCard
 returns-2 c =
-    refused-length _ (c .refused-length2 .ensures)
+    refused-length _ (c .refused2 .ensures)
     (simp (eq-eqb _ _ (c .before .before .before .if1 .left), sym (c .before .before .card-sized .ensures) ∙ not-true _ (c .before .if2 .taken)))
 
 all-digits-requires : tie.Need-all-digits-requires
 all-digits-requires c κs = search needs
 
-refused-length-requires-3 : tie.Need-refused-length-requires-3
-refused-length-requires-3 c κs = search needs
+refused-requires-3 : tie.Need-refused-requires-3
+refused-requires-3 c κs = search needs
 
 -- the tests that the card number has passed
 long : (c : tie.Else2) → cardSize (c .before .before .before .before .before .before .args .card .now) ≡ true
@@ -47,7 +47,7 @@ returns-3 : tie.Need-returns-3
 unfolding readWithCard
 returns-3 c =
     let e2 = c .before .before .before in
-    refused-length _ (c .refused-length3 .ensures)
+    refused-length _ (c .refused3 .ensures)
     (simp (eq-eqb _ _ (e2 .before .before .if1 .left), long e2, sym (c .before .before .all-digits .ensures) ∙ not-true _ (c .before .if3 .taken)))
 
 word-of-requires : tie.Need-word-of-requires
@@ -80,13 +80,13 @@ pub read-with-card-spec : {M : Type 1} → statement M
 read-with-card-spec =
     tie.close
     (tie.spec
-    refused-length-requires
+    refused-requires
     returns
     card-sized-requires
-    refused-length-requires-2
+    refused-requires-2
     returns-2
     all-digits-requires
-    refused-length-requires-3
+    refused-requires-3
     returns-3
     word-of-requires
     card-part-requires
