@@ -7,14 +7,9 @@ use native.Mathlib.Nat.{add-zero}
 use native.Mathlib.Omega.{arith}
 use lib.ListN.{length, take, drop, length-append, length-drop, take-append-drop, drop-of-length-le}
 use lib.Seq.{take-at, drop-append-add, drop-drop, length-take-le}
-use Rattle.lent.specs.Appending.{appending}
+use Rattle.lent.specs.Appending.{appending, Appended}
 use Rattle.lent.specs.Result.{over, Written}
 use Rattle.lent.proofs.Lists.{part-rest}
-
--- The value stands in memory after the first n bytes, and is the end of the first r.
-pub record Appended (value before after : List ℕ) (n r : ℕ) : Type 0 where
-  pub end : r ≡ n + length value
-  pub memory : after ≡ take n before ++ value ++ drop (n + length value) before
 
 module _ (v s : List ℕ) (n : ℕ) where
   pub front-length : n ≤ length s → length (take n s ++ v) ≡ n + length v

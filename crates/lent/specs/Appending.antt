@@ -1,11 +1,17 @@
 -- A value written into lent memory after bytes that stand there.
+use mathlib.Core.Path.{_≡_}
 use mathlib.Core.List.{List, _++_}
-use Prim.Native.Nat.{ℕ}
+use Prim.Native.Nat.{ℕ, _+_}
 use lib.Dec.{leb}
-use lib.ListN.{length, take}
+use lib.ListN.{length, take, drop}
 use Rattle.lent.specs.Refusals.{shortBuffer}
 use Rattle.lent.specs.Result.{Result, done, require}
 
 -- the first n bytes of memory, then the value; memory that has fewer is too short
 abbrev pub appending : List ℕ → List ℕ → ℕ → Result (List ℕ)
 appending value memory n = require (leb n (length memory)) shortBuffer (done (take n memory ++ value))
+
+-- Where there is room: the value stands after the first n bytes, and the first r end with it.
+pub record Appended (value before after : List ℕ) (n r : ℕ) : Type 0 where
+  pub end : r ≡ n + length value
+  pub memory : after ≡ take n before ++ value ++ drop (n + length value) before
