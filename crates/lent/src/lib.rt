@@ -1,6 +1,7 @@
 // What the entries share: the numbers of the refusals, their answers, words and characters in lent memory.
 mod answers;
 mod characters;
+mod keys;
 mod memory;
 mod numbers;
 mod words;
@@ -19,6 +20,7 @@ pub use characters::between;
 pub use characters::capitalized;
 pub use characters::is_digit;
 pub use characters::two_digits;
+pub use keys::key_size;
 pub use memory::append;
 pub use memory::lend;
 pub use memory::lend_word;
