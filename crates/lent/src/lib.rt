@@ -1,9 +1,9 @@
 // What the entries share: the numbers of the refusals, their answers, words and characters in lent memory.
 mod answers;
 mod characters;
-mod keys;
 mod memory;
 mod numbers;
+mod sizes;
 mod words;
 
 pub use answers::Answer;
@@ -20,7 +20,6 @@ pub use characters::between;
 pub use characters::capitalized;
 pub use characters::is_digit;
 pub use characters::two_digits;
-pub use keys::key_size;
 pub use memory::append;
 pub use memory::lend;
 pub use memory::lend_word;
@@ -38,6 +37,8 @@ pub use numbers::MESSAGE_TYPE;
 pub use numbers::NO_SUCH_PIN;
 pub use numbers::SHORT_BUFFER;
 pub use numbers::SIZE;
+pub use sizes::key_size;
+pub use sizes::sized;
 pub use words::byte_at;
 pub use words::bytes_of;
 pub use words::low_byte;
