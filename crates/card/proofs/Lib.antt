@@ -1,4 +1,3 @@
--- Laws for the callers: Laws. The others are steps of the proofs.
-pub mod Laws
+-- The steps of the proofs.
 mod Derivations
 mod Paddings

@@ -4,7 +4,7 @@ use Prim.Native.Nat.{ℕ}
 use lib.Bits.{bitXor}
 use lib.ListN.{replicate}
 use Rattle.lent.specs.Words.{word, left, right}
-use Rattle.keyed.specs.Keyed.{enciphered}
+use Rattle.cipher.specs.Triple.{tripleEncrypted}
 use Rattle.card.specs.Algorithm3.{macAlgorithm3}
 use Rattle.card.specs.Padding.{padded}
 
@@ -14,4 +14,4 @@ arqcWord key cardData = macAlgorithm3 (left key) (right key) (padded cardData)
 
 -- the ARPC: triple DES of the ARQC exclusive-or the two code bytes and six zeros
 unfoldable pub arpcWord : List ℕ → List ℕ → List ℕ → ℕ
-arpcWord key cryptogram code = enciphered key (bitXor (word cryptogram) (word (code ++ replicate 6 0)))
+arpcWord key cryptogram code = tripleEncrypted (left key) (right key) (bitXor (word cryptogram) (word (code ++ replicate 6 0)))

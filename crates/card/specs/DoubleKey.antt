@@ -4,8 +4,8 @@ use mathlib.Core.List.{List, _++_}
 use Prim.Native.Nat.{ℕ}
 use lib.Dec.{eqb}
 use lib.ListN.{length}
-use Rattle.lent.specs.Words.{wordBytes}
-use Rattle.keyed.specs.Keyed.{enciphered}
+use Rattle.lent.specs.Words.{left, right, wordBytes}
+use Rattle.cipher.specs.Triple.{tripleEncrypted}
 
 -- a key has 16 bytes
 abbrev pub doubleSize : List ℕ → Bool
@@ -13,4 +13,5 @@ doubleSize key = eqb (length key) 16
 
 -- the key that two blocks give: triple DES of the first, then of the second
 abbrev pub derivedKey : List ℕ → ℕ → ℕ → List ℕ
-derivedKey key first second = wordBytes (enciphered key first) ++ wordBytes (enciphered key second)
+derivedKey key first second =
+    wordBytes (tripleEncrypted (left key) (right key) first) ++ wordBytes (tripleEncrypted (left key) (right key) second)

@@ -12,7 +12,7 @@ use Rattle.lent.specs.Words.{word, wordBytes}
 use Rattle.card.specs.Cryptograms.{arqcWord, arpcWord}
 use Rattle.card.specs.Derivation.{sequenceRange, derivationWord}
 use Rattle.card.specs.DoubleKey.{doubleSize, derivedKey}
-use Rattle.card.specs.Session.{counterBytes}
+use Rattle.card.specs.Session.{sessionHalves}
 use Rattle.card.specs.Turned.{turned}
 
 -- Y of a card number and sequence
@@ -34,7 +34,7 @@ cardKey master card sequence =
 unfoldable pub sessionKey : List ℕ → ℕ → Result (List ℕ)
 sessionKey key counter =
     require (doubleSize key) size
-    (done (derivedKey key (word (counterBytes counter)) (word (counterBytes (turned 16 counter)))))
+    (done (derivedKey key (word (sessionHalves counter .0)) (word (sessionHalves counter .1))))
 
 -- the ARQC of 1 to 255 bytes of card data
 unfoldable pub arqc : List ℕ → List ℕ → Result (List ℕ)

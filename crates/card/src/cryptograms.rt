@@ -1,4 +1,5 @@
 // The cryptograms of a transaction.
+use crate::keys::triple_encrypt;
 ghost use mathlib.Core.Path.{_≡_};
 ghost use Prim.Native.Nat.{_+_, _*_, _/_, _≤_};
 ghost use lib.ListN.{length, take};
@@ -32,23 +33,20 @@ fn arqc_word(key: &[u8], data: &[u8]) -> u64
     cipher::encrypt(left, cipher::decrypt(right, chain))
 }
 
-// The ARQC of card data under a session key: 6 where the key has not 16 bytes or the data not 1 to 255.
+// The ARQC of card data under a session key. Refuses with 6 if the key does not have 16 bytes or the data 1 to 255.
 pub fn arqc(session_key: &[u8], data: &[u8]) -> lent::Block
     ensures { λ r. ⌜ Answered 8 (Entries.arqc (now («session_key» .entry)) (now («data» .entry))) (r .number) (r .value) ⌝ }
 {
     if session_key.len() != 16 {
         return lent::refused_block(lent::SIZE);
     }
-    if data.len() < 1 {
-        return lent::refused_block(lent::SIZE);
-    }
-    if data.len() > 255 {
+    if !lent::sized(1, 255, data) {
         return lent::refused_block(lent::SIZE);
     }
     lent::block_of(arqc_word(session_key, data))
 }
 
-// The ARPC of an ARQC and a code under a session key: 6 where the key has not 16 bytes, the ARQC not 8 or the code not 2.
+// The ARPC of an ARQC and a code under a session key. Refuses with 6 if the key does not have 16 bytes, the ARQC 8 or the code 2.
 pub fn arpc(session_key: &[u8], arqc: &[u8], code: &[u8]) -> lent::Block
     ensures { λ r. ⌜ Answered 8 (Entries.arpc (now («session_key» .entry)) (now (arqc .entry)) (now (code .entry))) (r .number) (r .value) ⌝ }
 {
@@ -62,5 +60,5 @@ pub fn arpc(session_key: &[u8], arqc: &[u8], code: &[u8]) -> lent::Block
         return lent::refused_block(lent::SIZE);
     }
     let block = lent::word_of(arqc) ^ lent::word_of(code);
-    lent::block_of(keyed::encipher_word(session_key, block))
+    lent::block_of(triple_encrypt(session_key, block))
 }

@@ -2,7 +2,7 @@
 ghost use mathlib.Core.Path.{_≡_};
 ghost use mathlib.Core.Bool.{true};
 ghost use mathlib.Core.List.{map};
-ghost use Prim.Native.Nat.{_+_, _*_, _%_, _^_, _<_, _≤_};
+ghost use Prim.Native.Nat.{_%_, _^_, _≤_};
 ghost use lib.ListN.{length};
 ghost use Rattle.lent.specs.Choice.{all};
 ghost use Rattle.lent.specs.Characters.{digit, digitValue};
@@ -11,15 +11,7 @@ ghost use Rattle.lent.specs.Words.{fromBase};
 ghost use Rattle.card.specs.Derivation.{derivationWord};
 ghost use Rattle.card.specs.Entries;
 
-// The word with one more half-byte behind it; its highest half-byte is dropped.
-fn with_half_byte(x: u64, h: u8) -> u64
-    requires { ⌜ h < 16 ⌝ }
-    ensures { λ r. ⌜ r ≡ (x * 16 + h) % 2 ^ 64 ⌝ }
-{
-    (x << 4) + (h as u64)
-}
-
-// The word of a card number's digits, of which the rightmost sixteen are kept.
+// The word of a card number's digits, of which the rightmost sixteen are kept. A digit's low half-byte is its value.
 fn number_word(card: &[u8]) -> u64
     requires { ⌜ all digit (now card) ≡ true ⌝ }
     ensures { λ r. ⌜ r ≡ fromBase 16 (length (now (card .entry))) (map digitValue (now (card .entry))) % 2 ^ 64 ⌝ }
@@ -27,7 +19,7 @@ fn number_word(card: &[u8]) -> u64
     let mut x: u64 = 0;
     let mut i: usize = 0;
     while i < card.len() {
-        x = with_half_byte(x, card[i] - 48);
+        x = lent::with_half_byte(x, card[i]);
         i += 1;
     }
     x
@@ -40,17 +32,14 @@ fn derivation_word(card: &[u8], sequence: u32) -> u64
 {
     let tens = (sequence / 10) as u8;
     let units = (sequence % 10) as u8;
-    with_half_byte(with_half_byte(number_word(card), tens), units)
+    lent::with_half_byte(lent::with_half_byte(number_word(card), tens), units)
 }
 
-// Y: 6 where the card number has not 13 to 19 characters or the sequence is above 99, 7 where a character is not a digit.
+// Y. Refuses with 6 if the card number does not have 13 to 19 characters or the sequence is above 99, 7 if a character is not a digit.
 pub fn derivation_data(card: &[u8], sequence: u32) -> lent::Block
     ensures { λ r. ⌜ Answered 8 (Entries.derivationData (now (card .entry)) sequence) (r .number) (r .value) ⌝ }
 {
-    if card.len() < 13 {
-        return lent::refused_block(lent::SIZE);
-    }
-    if card.len() > 19 {
+    if !lent::sized(13, 19, card) {
         return lent::refused_block(lent::SIZE);
     }
     if sequence > 99 {

@@ -1,24 +1,34 @@
 // The card key and the session key.
 use crate::derivation::derivation_data;
+ghost use mathlib.Core.Path.{_≡_};
 ghost use Rattle.lent.specs.Result.{Answered, done};
+ghost use Rattle.lent.specs.Words.{left, right};
+ghost use Rattle.cipher.specs.Triple.{tripleEncrypted};
 ghost use Rattle.card.specs.DoubleKey.{derivedKey};
 ghost use Rattle.card.specs.Entries;
+
+// Triple DES under the two halves of a key of sixteen bytes.
+pub(crate) fn triple_encrypt(key: &[u8], block: u64) -> u64
+    ensures { λ r. ⌜ r ≡ tripleEncrypted (left (now (key .entry))) (right (now (key .entry))) block ⌝ }
+{
+    cipher::triple_encrypt(lent::word_of(key), lent::right_half(key), block)
+}
 
 // The key that two blocks give: triple DES of each.
 fn derived_key(key: &[u8], first: u64, second: u64) -> lent::DoubleBlock
     ensures { λ r. ⌜ Answered 16 (done (derivedKey (now (key .entry)) first second)) (r .number) (r .value) ⌝ }
 {
     let mut value = [0u8; 16];
-    lent::lend_word(keyed::encipher_word(key, first), &mut value);
-    lent::lend_word(keyed::encipher_word(key, second), &mut value[8..]);
+    lent::lend_word(triple_encrypt(key, first), &mut value);
+    lent::lend_word(triple_encrypt(key, second), &mut value[8..]);
     lent::DoubleBlock {
         number: lent::DONE,
         value,
     }
 }
 
-// The card key of a card number and sequence under the master key: 6 where the master key has not 16 bytes, the card number not 13 to
-// 19 characters or the sequence is above 99, 7 where a character is not a digit.
+// The card key of a card number and sequence under the master key. Refuses with 6 if the master key does not have 16 bytes, the card number
+// does not have 13 to 19 characters or the sequence is above 99, 7 if a character is not a digit.
 pub fn card_key(master: &[u8], card: &[u8], sequence: u32) -> lent::DoubleBlock
     ensures { λ r. ⌜ Answered 16 (Entries.cardKey (now (master .entry)) (now (card .entry)) sequence) (r .number) (r .value) ⌝ }
 {
@@ -34,7 +44,7 @@ pub fn card_key(master: &[u8], card: &[u8], sequence: u32) -> lent::DoubleBlock
     derived_key(master, y, !y)
 }
 
-// The session key of a transaction counter under the card key: 6 where the card key has not 16 bytes.
+// The session key of a transaction counter under the card key. Refuses with 6 if the card key does not have 16 bytes.
 pub fn session_key(card_key: &[u8], counter: u16) -> lent::DoubleBlock
     ensures { λ r. ⌜ Answered 16 (Entries.sessionKey (now («card_key» .entry)) counter) (r .number) (r .value) ⌝ }
 {

@@ -1,6 +1,4 @@
 -- Laws of key entry: a key's hexadecimal text gives the key back, and an accepted text is the text of the key that it gives.
-pub use Rattle.keyentry.proofs.Sizes.{key-size-le}
-use borrow.Author.Tests.{eq-eqb, eqb-true}
 use mathlib.Core.Path.{_≡_, sym, ap, _∙_}
 use mathlib.Core.Bool.{true}
 use mathlib.Core.List.{List, map}
@@ -9,8 +7,9 @@ use Prim.Native.Nat.{ℕ, _*_}
 use lib.ListN.{length}
 use Rattle.lent.specs.Choice.{all}
 use Rattle.lent.specs.Characters.{capitalized}
-use Rattle.lent.specs.Result.{done, number, bytes}
+use Rattle.lent.specs.Result.{done}
 use Rattle.lent.specs.Words.{byte}
+use Rattle.lent.proofs.Results.{same-done}
 use Rattle.keyentry.specs.Hexadecimal.{textOf}
 use Rattle.keyentry.specs.KeyEntry.{keySize, keyEntry}
 use Rattle.keyentry.specs.declared.units.Bytes.{Bytes}
@@ -22,7 +21,7 @@ pub text-entered : (letter : ℕ) → (letter ≡ 65) ⊎ (letter ≡ 97) → (k
     → all byte key ≡ true → length key ≡ wanted .0 → keySize wanted ≡ true → keyEntry (textOf letter key) wanted ≡ done key
 text-entered letter case key wanted b n s =
     let h = text-made letter case key b in
-    entered (textOf letter key) wanted s (eq-eqb _ _ (text-length letter case key ∙ ap (λ (m : ℕ). 2 * m) n)) (h .0)
+    entered (textOf letter key) wanted s (text-length letter case key ∙ ap (λ (m : ℕ). 2 * m) n) (h .0)
     ∙ ap done (h .1)
 
 -- A text that is accepted as a key of the wanted size is the text of that key, its letters' case aside; the key has that size.
@@ -33,11 +32,10 @@ pub record Accepted (text key : List ℕ) (wanted : Bytes) : Type 0 where
 
 pub accepted : (text key : List ℕ) (wanted : Bytes) → keyEntry text wanted ≡ done key → Accepted text key wanted
 accepted text key wanted e =
-    let h = passes text wanted (sym (ap number e)) in
-    let full = eqb-true _ _ (h .1) in
-    let same = ap bytes (sym (entered text wanted (h .0) (h .1) (h .2)) ∙ e) in
+    let h = passes text wanted e in
+    let same = same-done (h .3) in
     record {
       size = h .0;
-      count = ap length (sym same) ∙ key-length text (wanted .0) full;
-      text-of = text-read text (wanted .0) full (h .2) ∙ ap (textOf 65) same;
+      count = ap length (sym same) ∙ key-length text (wanted .0) (h .1);
+      text-of = text-read text (wanted .0) (h .1) (h .2) ∙ ap (textOf 65) same;
     }

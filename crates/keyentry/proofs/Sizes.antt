@@ -1,62 +1,43 @@
--- Laws on the sizes of keys, and the tests of key entry in their order.
-use borrow.Author.Tests.{eqb-true}
+-- The tests of key entry in their order.
+use borrow.Author.Tests.{eqb-true, eq-eqb}
 use mathlib.Core.Path.{_≡_}
 use mathlib.Core.Bool.{true, false}
 use mathlib.Core.List.{List}
-use Prim.Native.Nat.{ℕ, _%_, _≤_}
+use Prim.Native.Nat.{ℕ, _*_, _%_}
 use native.Mathlib.Omega.{arith}
 use lib.Dec.{eqb}
 use lib.ListN.{length}
 use Rattle.lent.specs.Choice.{all}
+use Rattle.lent.specs.Characters.{hexadecimal}
 use Rattle.lent.specs.Refusals.{size, character}
-use Rattle.lent.specs.Result.{done, refused, number}
-use Rattle.lent.proofs.Laws.{cases, never}
-use Rattle.keyentry.specs.Hexadecimal.{hexadecimal}
+use Rattle.lent.specs.Result.{done, refused, require}
+use Rattle.lent.proofs.Results.{require-done}
 use Rattle.keyentry.specs.KeyEntry.{keyOf, textBytes, keySize, fullText, keyEntry}
 use Rattle.keyentry.specs.declared.units.Bytes.{Bytes}
 
--- a key has at most 16 bytes
-pub key-size-le : (wanted : Bytes) → keySize wanted ≡ true → wanted .0 ≤ 16
-key-size-le wanted e =
-    cases (eqb (wanted .0) 8) (λ h. omega (arith, eqb-true (wanted .0) 8 h))
-    (λ h. omega (arith, eqb-true (wanted .0) 16 (simp h at e)))
-
-module _ (text : List ℕ) (wanted : Bytes) where
-  pub size-refused : keySize wanted ≡ false → keyEntry text wanted ≡ refused size
-  unfolding keyEntry
-  size-refused s = simp s
-
-  pub text-refused : keySize wanted ≡ true → fullText text wanted ≡ false → keyEntry text wanted ≡ refused size
-  unfolding keyEntry
-  text-refused s f = simp (s, f)
-
-  pub character-refused : keySize wanted ≡ true → fullText text wanted ≡ true → all hexadecimal text ≡ false → keyEntry text wanted ≡ refused character
-  unfolding keyEntry
-  character-refused s f h = simp (s, f, h)
-
-  pub entered : keySize wanted ≡ true → fullText text wanted ≡ true → all hexadecimal text ≡ true → keyEntry text wanted ≡ done (keyOf text)
-  unfolding keyEntry
-  entered s f h = simp (s, f, h)
-
-  -- a text that is not refused passes all three tests
-  pub passes : 0 ≡ number (keyEntry text wanted) → (keySize wanted ≡ true) × (fullText text wanted ≡ true) × (all hexadecimal text ≡ true)
-  passes e =
-      cases (keySize wanted)
-      (λ s. cases (fullText text wanted)
-      (λ f. cases (all hexadecimal text) (λ h. (s, f, h)) (λ h. never (cc (character-refused s f h))))
-      (λ f. never (cc (text-refused s f))))
-      (λ s. never (cc (size-refused s)))
-
--- the bytes of a text of any size, by the same tests
 module _ (text : List ℕ) where
-  pub odd-refused : eqb (length text % 2) 0 ≡ false → textBytes text ≡ refused size
-  unfolding textBytes
-  odd-refused o = simp o
-
-  pub not-hexadecimal : eqb (length text % 2) 0 ≡ true → all hexadecimal text ≡ false → textBytes text ≡ refused character
-  unfolding textBytes
-  not-hexadecimal o h = simp (o, h)
-
   pub decoded : eqb (length text % 2) 0 ≡ true → all hexadecimal text ≡ true → textBytes text ≡ done (keyOf text)
   unfolding textBytes
   decoded o h = simp (o, h)
+
+  -- a text that is not refused passes both tests
+  pub decodes : {key : List ℕ} → textBytes text ≡ done key → (all hexadecimal text ≡ true) × (done (keyOf text) ≡ done key)
+  unfolding textBytes
+  decodes {key} e =
+      require-done (all hexadecimal text) character (done (keyOf text)) key
+      (require-done (eqb (length text % 2) 0) size (require (all hexadecimal text) character (done (keyOf text))) key e .1)
+
+module _ (text : List ℕ) (wanted : Bytes) where
+  pub entered : keySize wanted ≡ true → length text ≡ 2 * wanted .0 → all hexadecimal text ≡ true → keyEntry text wanted ≡ done (keyOf text)
+  unfolding keyEntry
+  entered s f h = let even : length text % 2 ≡ 0 = omega arith in simp (s, eq-eqb _ _ f) (decoded text (eq-eqb _ _ even) h)
+
+  -- a text that is not refused passes all three tests
+  pub passes : {key : List ℕ} → keyEntry text wanted ≡ done key
+      → (keySize wanted ≡ true) × (length text ≡ 2 * wanted .0) × (all hexadecimal text ≡ true) × (done (keyOf text) ≡ done key)
+  unfolding keyEntry
+  passes {key} e =
+      let s = require-done (keySize wanted) size (require (fullText text wanted) size (textBytes text)) key e in
+      let f = require-done (fullText text wanted) size (textBytes text) key (s .1) in
+      let d = decodes text (f .1) in
+      (s .0, eqb-true _ _ (f .0), d .0, d .1)

@@ -11,10 +11,10 @@ use lib.Arith.{digits-div, digits-mod}
 use lib.Dec.{eqb, ltb, lit<}
 use lib.ListN.{length}
 use Rattle.lent.specs.Choice.{both, pick, all}
-use Rattle.lent.specs.Characters.{digit, small, capitalized}
+use Rattle.lent.specs.Characters.{digit, small, capitalized, hexadecimal}
 use Rattle.lent.specs.Words.{byte}
 use Rattle.lent.proofs.Laws.{cases, both-true, between-true, holdsFrom, holds-below}
-use Rattle.keyentry.specs.Hexadecimal.{hexadecimal, valueOf, hexadecimalDigit, textOf}
+use Rattle.keyentry.specs.Hexadecimal.{valueOf, hexadecimalDigit, textOf}
 use Rattle.keyentry.specs.KeyEntry.{keyOf}
 
 -- ---- one digit

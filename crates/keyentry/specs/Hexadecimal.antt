@@ -1,14 +1,9 @@
 -- Hexadecimal digits, with letters of either case (01, Digits and bytes).
-use mathlib.Core.Bool.{Bool}
 use mathlib.Core.List.{List, [], _∷_}
 use Prim.Native.Nat.{ℕ, _+_, _-_, _/_, _%_}
 use lib.Dec.{ltb}
-use Rattle.lent.specs.Choice.{either, pick, between}
+use Rattle.lent.specs.Choice.{pick}
 use Rattle.lent.specs.Characters.{digit, digitValue, digitOf, capitalized}
-
--- 0 to 9, A to F, a to f
-unfoldable pub hexadecimal : ℕ → Bool
-hexadecimal x = either (digit x) (between 65 70 (capitalized x))
 
 -- the value of a hexadecimal digit
 unfoldable pub valueOf : ℕ → ℕ

@@ -5,10 +5,11 @@ use Prim.Native.Nat.{ℕ, _+_, _*_, _%_}
 use lib.Dec.{eqb}
 use lib.ListN.{length}
 use Rattle.lent.specs.Choice.{all}
+use Rattle.lent.specs.Characters.{hexadecimal}
 use Rattle.lent.specs.Keys.{keySizes}
 use Rattle.lent.specs.Refusals.{size, character}
 use Rattle.lent.specs.Result.{Result, done, require}
-use Rattle.keyentry.specs.Hexadecimal.{hexadecimal, valueOf}
+use Rattle.keyentry.specs.Hexadecimal.{valueOf}
 use Rattle.keyentry.specs.declared.units.Bytes.{Bytes}
 
 -- the bytes of a text: a byte for each two digits
@@ -29,10 +30,9 @@ keySize wanted = keySizes (wanted .0)
 abbrev pub fullText : List ℕ → Bytes → Bool
 fullText text wanted = eqb (length text) (2 * wanted .0)
 
--- the key, or the refusal
+-- the key, or the refusal: a text of that many digits, and the bytes of it
 unfoldable pub keyEntry : List ℕ → Bytes → Result (List ℕ)
 keyEntry text wanted =
     require (keySize wanted) size
     (require (fullText text wanted) size
-    (require (all hexadecimal text) character
-    (done (keyOf text))))
+    (textBytes text))

@@ -1,5 +1,4 @@
 // The bytes of a hexadecimal text.
-use crate::hexadecimal::all_hexadecimal;
 use crate::hexadecimal::value_of;
 use crate::units::Bytes;
 use crate::units::Doubling;
@@ -9,8 +8,9 @@ ghost use mathlib.Core.Bool.{true};
 ghost use Prim.Native.Nat.{_+_, _*_, _≤_};
 ghost use lib.ListN.{length, getD};
 ghost use Rattle.lent.specs.Choice.{all};
+ghost use Rattle.lent.specs.Characters.{hexadecimal};
 ghost use Rattle.lent.specs.Result.{Written, done, over};
-ghost use Rattle.keyentry.specs.Hexadecimal.{hexadecimal, valueOf};
+ghost use Rattle.keyentry.specs.Hexadecimal.{valueOf};
 ghost use Rattle.keyentry.specs.KeyEntry.{keyOf, textBytes};
 
 // The byte whose two digits stand in the text at its place.
@@ -41,8 +41,8 @@ fn put_bytes(text: &[u8], size: Bytes, out: &mut [u8])
     }
 }
 
-// Writes the bytes of a text into lent memory: 13 where the memory is shorter.
-pub(crate) fn lend_bytes(text: &[u8], size: Bytes, out: &mut [u8]) -> lent::Answer
+// Writes the bytes of a text into lent memory. Refuses with 13 if the memory is shorter.
+fn lend_bytes(text: &[u8], size: Bytes, out: &mut [u8]) -> lent::Answer
     requires { ⌜ length (now text) ≡ 2 * size .0 ⌝ }
     requires { ⌜ all hexadecimal (now text) ≡ true ⌝ }
     ensures { λ r. ⌜ Written (done (keyOf (now (text .entry)))) (now (out .entry)) (r .number) (r .length) (now (out .exit)) ⌝ }
@@ -58,7 +58,7 @@ pub(crate) fn lend_bytes(text: &[u8], size: Bytes, out: &mut [u8]) -> lent::Answ
     }
 }
 
-// Writes the bytes of a text of any size: 6 where it does not have two digits for each byte, 7 where a character is not hexadecimal, 13 where the
+// Writes the bytes of a text of any size. Refuses with 6 if it does not have two digits for each byte, 7 if a character is not hexadecimal, 13 if the
 // buffer is shorter than the bytes.
 pub fn text_bytes(text: &[u8], out: &mut [u8]) -> lent::Answer
     ensures { λ r. ⌜ Written (textBytes (now (text .entry))) (now (out .entry)) (r .number) (r .length) (now (out .exit)) ⌝ }
@@ -66,7 +66,7 @@ pub fn text_bytes(text: &[u8], out: &mut [u8]) -> lent::Answer
     if text.len() % 2 != 0 {
         return lent::refused(lent::SIZE);
     }
-    if !all_hexadecimal(text) {
+    if !lent::all_of_kind(lent::Kind::HexadecimalDigits, text) {
         return lent::refused(lent::CHARACTER);
     }
     lend_bytes(text, Bytes(text.len() / 2), out)

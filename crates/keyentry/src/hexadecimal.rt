@@ -3,18 +3,8 @@ ghost use mathlib.Core.Path.{_≡_};
 ghost use mathlib.Core.Bool.{true};
 ghost use mathlib.Core.List.{[], _∷_};
 ghost use Prim.Native.Nat.{_<_};
-ghost use Rattle.lent.specs.Choice.{all};
-ghost use Rattle.keyentry.specs.Hexadecimal.{hexadecimal, valueOf, hexadecimalDigit, textOf};
-
-// Whether a character is a hexadecimal digit.
-fn is_hexadecimal(x: u8) -> bool
-    ensures { λ r. ⌜ r ≡ hexadecimal x ⌝ }
-{
-    if lent::is_digit(x) {
-        return true;
-    }
-    lent::between(b'A', b'F', lent::capitalized(x))
-}
+ghost use Rattle.lent.specs.Characters.{hexadecimal};
+ghost use Rattle.keyentry.specs.Hexadecimal.{valueOf, hexadecimalDigit, textOf};
 
 // The value of a hexadecimal digit.
 pub(crate) fn value_of(x: u8) -> u8
@@ -25,20 +15,6 @@ pub(crate) fn value_of(x: u8) -> u8
         return x - b'0';
     }
     lent::capitalized(x) - 55
-}
-
-// Whether every character is a hexadecimal digit.
-pub(crate) fn all_hexadecimal(text: &[u8]) -> bool
-    ensures { λ r. ⌜ r ≡ all hexadecimal (now (text .entry)) ⌝ }
-{
-    let mut i: usize = 0;
-    while i < text.len() {
-        if !is_hexadecimal(text[i]) {
-            return false;
-        }
-        i += 1;
-    }
-    true
 }
 
 // The digit of a value below 16, in capitals.

@@ -52,15 +52,14 @@ Refuses num answer = (why : Refusal) × (num ≡ numberOf why) × (answer ≡ re
 
 -- ---- answers by value
 
--- With the number 0 the result is the value; with any other it is a refusal, which stays in what goes on from it.
+-- with the number 0 the result is the value, with any other it is a refusal
 pub answered-done : (n : ℕ) (answer : Result (List ℕ)) {num : ℕ} {val : List ℕ} → Answered n answer num val → num ≡ 0 → answer ≡ done val
 answered-done n (done b) a z = ap done (sym (a .value))
 answered-done n (refused why) a z = absurd (not-zero why (sym (a .number) ∙ z))
 
-pub answered-refused : {B : Type 0} (n : ℕ) (answer : Result (List ℕ)) {num : ℕ} {val : List ℕ} (f : List ℕ → Result B)
-    → Answered n answer num val → (num ≡ 0 → ⊥) → Refuses num (andThen answer f)
-answered-refused n (done b) f a h = absurd (h (a .number))
-answered-refused n (refused why) f a h = (why, a .number, refl)
+pub answered-refused : (n : ℕ) (answer : Result (List ℕ)) {num : ℕ} {val : List ℕ} → Answered n answer num val → (num ≡ 0 → ⊥) → Refuses num answer
+answered-refused n (done b) a h = absurd (h (a .number))
+answered-refused n (refused why) a h = (why, a .number, refl)
 
 -- what is answered for a refusal
 pub refused-block : {answer : Result (List ℕ)} {num : ℕ} {r : Block}
@@ -99,13 +98,13 @@ module _ {answer : Result (List ℕ)} {before after : List ℕ} {num len : ℕ} 
       stands v e el ea =
           (rw (el, ea) (e ∙ ap done (sym (take-append-seam v (drop (length v) before)))), rw (el, ea, length-append) (omega arith))
 
-  -- with any other number and room for every value, the answer is a refusal, which stays in what goes on from it
-  pub written-refused : {B : Type 0} (f : List ℕ → Result B) → lend (length before) answer ≡ answer → (num ≡ 0 → ⊥) → Refuses num (andThen answer f)
-  written-refused f room h = decided answer refl
+  -- with any other number and room for every value, the answer is a refusal
+  pub written-refused : lend (length before) answer ≡ answer → (num ≡ 0 → ⊥) → Refuses num answer
+  written-refused room h = decided answer refl
     where
-      decided : (r : Result (List ℕ)) → answer ≡ r → Refuses num (andThen answer f)
+      decided : (r : Result (List ℕ)) → answer ≡ r → Refuses num answer
       decided (done v) e = absurd (h (w .number ∙ ap number (room ∙ e)))
-      decided (refused why) e = (why, w .number ∙ ap number (room ∙ e), rw e)
+      decided (refused why) e = (why, w .number ∙ ap number (room ∙ e), e)
 
 -- there was room for the value
 pub lent-all : {v before after : List ℕ} {num len : ℕ} → length v ≤ length before → Written (done v) before num len after → after ≡ over v before

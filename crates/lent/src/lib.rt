@@ -3,6 +3,7 @@ mod answers;
 mod characters;
 mod memory;
 mod numbers;
+mod sizes;
 mod words;
 
 pub use answers::Answer;
@@ -36,6 +37,8 @@ pub use numbers::MESSAGE_TYPE;
 pub use numbers::NO_SUCH_PIN;
 pub use numbers::SHORT_BUFFER;
 pub use numbers::SIZE;
+pub use sizes::key_size;
+pub use sizes::sized;
 pub use words::byte_at;
 pub use words::bytes_of;
 pub use words::low_byte;

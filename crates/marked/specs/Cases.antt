@@ -13,8 +13,7 @@ use Rattle.cleaning.specs.Cleaning.{cleanText}
 use Rattle.mac.specs.Mac.{textMac}
 use Rattle.pinblock.specs.Entries.{make, makeWithCard, read}
 use Rattle.card.specs.Entries.{derivationData}
-use Rattle.card.specs.Session.{counterBytes}
-use Rattle.card.specs.Turned.{turned}
+use Rattle.card.specs.Session.{sessionHalves}
 use Rattle.terminal.specs.Record.{afterKey}
 use Rattle.terminal.specs.declared.state.Terminal.{Terminal}
 
@@ -55,7 +54,7 @@ answer (pin digits) = make digits
 answer (pinAndCard digits card) = makeWithCard digits card
 answer (block bytes) = read bytes
 answer (cardAndSequence card sequence) = derivationData card sequence
-answer (halvesOf counter) = done (counterBytes counter ++ counterBytes (turned 16 counter))
+answer (halvesOf counter) = done (sessionHalves counter .0 ++ sessionHalves counter .1)
 answer (after c) = counterIn (afterKey (recordWith c))
 
 -- ---- the table

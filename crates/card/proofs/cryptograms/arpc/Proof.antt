@@ -1,6 +1,9 @@
 -- `arpc` meets its contract.
 use borrow.Author.Needs.{needs}
 use borrow.Author.Tests.{eq-eqb, ne-eqb}
+use mathlib.Core.Path.{refl}
+use Rattle.lent.specs.Refusals.{size}
+use Rattle.lent.proofs.Results.{refused-block}
 use Rattle.lent.proofs.Parts.{from-zeros-behind}
 use Rattle.card.specs.Cryptograms.{arpcWord}
 use Rattle.card.specs.Entries.{arpc}
@@ -12,14 +15,16 @@ refused-block-requires c κs = search needs
 
 returns : tie.Need-returns
 unfolding arpc
-returns c = simp (ne-eqb _ _ (c .before .if1 .taken)) (c .refused-block .ensures)
+returns c = refused-block (c .refused-block .ensures) (size, refl, simp (ne-eqb _ _ (c .before .if1 .taken)))
 
 refused-block-requires-2 : tie.Need-refused-block-requires-2
 refused-block-requires-2 c κs = search needs
 
 returns-2 : tie.Need-returns-2
 unfolding arpc
-returns-2 c = simp (eq-eqb _ _ (c .before .before .if1 .left), ne-eqb _ _ (c .before .if2 .taken)) (c .refused-block2 .ensures)
+returns-2 c =
+    refused-block (c .refused-block2 .ensures)
+    (size, refl, simp (eq-eqb _ _ (c .before .before .if1 .left), ne-eqb _ _ (c .before .if2 .taken)))
 
 refused-block-requires-3 : tie.Need-refused-block-requires-3
 refused-block-requires-3 c κs = search needs
@@ -28,7 +33,8 @@ returns-3 : tie.Need-returns-3
 unfolding arpc
 returns-3 c =
     let b = c .before .before in
-    simp (eq-eqb _ _ (b .before .if1 .left), eq-eqb _ _ (b .if2 .left), ne-eqb _ _ (c .before .if3 .taken)) (c .refused-block3 .ensures)
+    refused-block (c .refused-block3 .ensures)
+    (size, refl, simp (eq-eqb _ _ (b .before .if1 .left), eq-eqb _ _ (b .if2 .left), ne-eqb _ _ (c .before .if3 .taken)))
 
 word-of-requires : tie.Need-word-of-requires
 word-of-requires c κs = search needs
@@ -36,8 +42,8 @@ word-of-requires c κs = search needs
 word-of-requires-2 : tie.Need-word-of-requires-2
 word-of-requires-2 c κs = search needs
 
-encipher-word-requires : tie.Need-encipher-word-requires
-encipher-word-requires c κs = search needs
+triple-encrypt-requires : tie.Need-triple-encrypt-requires
+triple-encrypt-requires c κs = search needs
 
 block-of-requires : tie.Need-block-of-requires
 block-of-requires c κs = search needs
@@ -54,7 +60,7 @@ returns-4 c =
       from-zeros-behind 256 8,
       ← w .word-of .ensures,
       ← c .before .before .word-of2 .ensures,
-      ← c .before .encipher-word .ensures,
+      ← c .before .triple-encrypt .ensures,
     ) (c .block-of .ensures)
 
 pub arpc-spec : {M : Type 1} → statement M
@@ -69,6 +75,6 @@ arpc-spec =
     returns-3
     word-of-requires
     word-of-requires-2
-    encipher-word-requires
+    triple-encrypt-requires
     block-of-requires
     returns-4)

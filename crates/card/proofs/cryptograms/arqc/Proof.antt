@@ -1,9 +1,13 @@
 -- `arqc` meets its contract.
 use borrow.Author.Needs.{needs}
-use borrow.Author.Tests.{eq-eqb, ne-eqb}
-use native.Mathlib.Omega.{arith}
+use borrow.Author.Tests.{eq-eqb, ne-eqb, not-true, not-false}
+use mathlib.Core.Path.{_≡_, refl, sym, _∙_}
+use mathlib.Core.Bool.{true}
 use lib.ListN.{length}
-use Rattle.lent.proofs.Laws.{within, below, above}
+use Rattle.lent.specs.Choice.{between}
+use Rattle.lent.specs.Refusals.{size}
+use Rattle.lent.proofs.Laws.{between-true}
+use Rattle.lent.proofs.Results.{refused-block}
 use Rattle.card.specs.Entries.{arqc}
 use Rattle.card.proofs.cryptograms.arqc.Statement.{statement}
 use Rattle.card.proofs.cryptograms.arqc.Tie as tie
@@ -13,7 +17,10 @@ refused-block-requires c κs = search needs
 
 returns : tie.Need-returns
 unfolding arqc
-returns c = simp (ne-eqb _ _ (c .before .if1 .taken)) (c .refused-block .ensures)
+returns c = refused-block (c .refused-block .ensures) (size, refl, simp (ne-eqb _ _ (c .before .if1 .taken)))
+
+sized-requires : tie.Need-sized-requires
+sized-requires c κs = search needs
 
 refused-block-requires-2 : tie.Need-refused-block-requires-2
 refused-block-requires-2 c κs = search needs
@@ -21,30 +28,25 @@ refused-block-requires-2 c κs = search needs
 returns-2 : tie.Need-returns-2
 unfolding arqc
 returns-2 c =
-    let e = c .before .before in
-    simp (eq-eqb _ _ (e .if1 .left), below 1 255 (length (e .before .before .before .args .«data» .now)) (omega arith)) (c .refused-block2 .ensures)
+    let s = c .before .before in
+    refused-block (c .refused-block2 .ensures)
+    (size, refl, simp (eq-eqb _ _ (s .before .if1 .left), sym (s .sized .ensures) ∙ not-true _ (c .before .if2 .taken)))
 
-refused-block-requires-3 : tie.Need-refused-block-requires-3
-refused-block-requires-3 c κs = search needs
-
-returns-3 : tie.Need-returns-3
-unfolding arqc
-returns-3 c =
-    let e = c .before .before .before in
-    simp (eq-eqb _ _ (e .if1 .left), above 1 255 (length (e .before .before .before .args .«data» .now)) (omega arith)) (c .refused-block3 .ensures)
+-- the data have 1 to 255 bytes
+few : (c : tie.Else2) → between 1 255 (length (c .before .before .before .before .before .args .«data» .now)) ≡ true
+few c = sym (c .before .sized .ensures) ∙ not-false _ (c .if2 .left)
 
 arqc-word-requires : tie.Need-arqc-word-requires
-arqc-word-requires c κs = search needs
+arqc-word-requires c κs = between-true 1 255 _ (few c) .1
 
 block-of-requires : tie.Need-block-of-requires
 block-of-requires c κs = search needs
 
-returns-4 : tie.Need-returns-4
+returns-3 : tie.Need-returns-3
 unfolding arqc
-returns-4 c =
-    let e = c .before .before .before .before in
-    let sized = within 1 255 (length (e .before .before .before .args .«data» .now)) (omega arith) (omega arith) in
-    simp (eq-eqb _ _ (e .if1 .left), sized, ← c .before .arqc-word .ensures) (c .block-of .ensures)
+returns-3 c =
+    let e = c .before .before in
+    simp (eq-eqb _ _ (e .before .before .if1 .left), few e, ← c .before .arqc-word .ensures) (c .block-of .ensures)
 
 pub arqc-spec : {M : Type 1} → statement M
 arqc-spec =
@@ -52,10 +54,9 @@ arqc-spec =
     (tie.spec
     refused-block-requires
     returns
+    sized-requires
     refused-block-requires-2
     returns-2
-    refused-block-requires-3
-    returns-3
     arqc-word-requires
     block-of-requires
-    returns-4)
+    returns-3)

@@ -25,18 +25,8 @@ loop-holds c = (search needs, refl)
 shared-slice-read-with-half-byte : tie.Need-shared-slice-read-with-half-byte Inv-loop μ-loop
 shared-slice-read-with-half-byte c = search needs
 
--- the character that is read
-is-digit : (c : tie.After-shared-slice-known2 Inv-loop μ-loop)
-    → let x = getD (c .before .before .before .before .args .card .now) (c .before .before .loop .i) 0 in (48 ≤ x) × (x ≤ 57)
-is-digit c =
-    let s = c .before .before .before .before in
-    between-true 48 57 _ (all-at digit (s .args .card .now) (c .before .before .loop .i) (s .pre) (omega arith))
-
-sub-with-half-byte : tie.Need-sub-with-half-byte Inv-loop μ-loop
-sub-with-half-byte c = omega (arith, is-digit c)
-
 with-half-byte-requires : tie.Need-with-half-byte-requires Inv-loop μ-loop
-with-half-byte-requires c κs = omega (arith, is-digit c)
+with-half-byte-requires c κs = search needs
 
 add-i : tie.Need-add-i Inv-loop μ-loop
 add-i c = search needs
@@ -48,8 +38,9 @@ loop-again : tie.Need-loop-again Inv-loop μ-loop
 unfolding fromBase
 loop-again c =
     let l = c .before .before .before .loop in
-    let card = c .before .before .before .before .before .args .card .now in
-    (omega arith, rw (add-one (l .i), List·getD-map digitValue card (l .i) 0) (omega arith))
+    let s = c .before .before .before .before .before in
+    let d = between-true 48 57 (getD (s .args .card .now) (l .i) 0) (all-at digit (s .args .card .now) (l .i) (s .pre) (omega arith)) in
+    (omega arith, rw (add-one (l .i), List·getD-map digitValue (s .args .card .now) (l .i) 0) (omega arith))
 
 returns : tie.Need-returns Inv-loop μ-loop
 returns c =
@@ -64,7 +55,6 @@ number-word-spec =
     μ-loop
     loop-holds
     shared-slice-read-with-half-byte
-    sub-with-half-byte
     with-half-byte-requires
     add-i
     loop-less

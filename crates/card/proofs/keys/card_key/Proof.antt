@@ -1,10 +1,11 @@
 -- `card_key` meets its contract.
 use borrow.Author.Needs.{needs}
 use borrow.Author.Tests.{eq-eqb, ne-eqb}
-use Rattle.lent.proofs.Results.{refused-as, answered-done}
+use mathlib.Core.Path.{refl, _∙_}
+use Rattle.lent.specs.Refusals.{size}
+use Rattle.lent.proofs.Results.{answered-done, answered-refused, refused-double-block}
 use Rattle.card.specs.Entries.{derivationData, cardKey}
 use Rattle.card.specs.Turned.{turned}
-use Rattle.card.proofs.Laws.{derivation-numbered}
 use Rattle.card.proofs.keys.card_key.Statement.{statement}
 use Rattle.card.proofs.keys.card_key.Tie as tie
 
@@ -13,7 +14,7 @@ refused-double-block-requires c κs = search needs
 
 returns : tie.Need-returns
 unfolding cardKey
-returns c = simp (ne-eqb _ _ (c .before .if1 .taken)) (c .refused-double-block .ensures)
+returns c = refused-double-block (c .refused-double-block .ensures) (size, refl, simp (ne-eqb _ _ (c .before .if1 .taken)))
 
 derivation-data-requires : tie.Need-derivation-data-requires
 derivation-data-requires c κs = search needs
@@ -26,8 +27,8 @@ unfolding cardKey
 returns-2 c =
     let d = c .before .before .before in
     let a = d .before .before .before .before .args in
-    let e = refused-as (derivationData (a .card .now) (a .sequence)) (d .derivation-data .ensures .number) (c .before .if2 .taken) in
-    simp (eq-eqb _ _ (d .before .if1 .left), e) (c .refused-double-block2 .ensures)
+    let k = answered-refused 8 (derivationData (a .card .now) (a .sequence)) (d .derivation-data .ensures) (c .before .if2 .taken) in
+    refused-double-block (c .refused-double-block2 .ensures) (k .0, k .1, simp (eq-eqb _ _ (d .before .if1 .left), k .2))
 
 slice-aggregate-word-of : tie.Need-slice-aggregate-word-of
 slice-aggregate-word-of c = search needs
@@ -44,7 +45,7 @@ returns-3 c =
     let d = c .before .before .before .before .before .before in
     let a = d .before .before .before .before .args in
     let r = d .derivation-data .ensures in
-    let e = answered-done 8 (derivationData (a .card .now) (a .sequence)) (derivation-numbered _ _) r (c .before .before .before .before .if2 .left) in
+    let e = answered-done 8 (derivationData (a .card .now) (a .sequence)) r (c .before .before .before .before .if2 .left) in
     simp (eq-eqb _ _ (d .before .if1 .left), e, ← c .before .word-of .ensures) (c .derived-key .ensures)
 
 pub card-key-spec : {M : Type 1} → statement M

@@ -10,8 +10,8 @@ use Rattle.lent.specs.Words.{toBase, wordBytes}
 use Rattle.card.proofs.keys.derived_key.Statement.{statement}
 use Rattle.card.proofs.keys.derived_key.Tie as tie
 
-encipher-word-requires : tie.Need-encipher-word-requires
-encipher-word-requires c κs = search needs
+triple-encrypt-requires : tie.Need-triple-encrypt-requires
+triple-encrypt-requires c κs = search needs
 
 slice-aggregate-lend-word : tie.Need-slice-aggregate-lend-word
 slice-aggregate-lend-word c = search needs
@@ -19,8 +19,8 @@ slice-aggregate-lend-word c = search needs
 lend-word-requires : tie.Need-lend-word-requires
 lend-word-requires c κs = search needs
 
-encipher-word-requires-2 : tie.Need-encipher-word-requires-2
-encipher-word-requires-2 c κs = search needs
+triple-encrypt-requires-2 : tie.Need-triple-encrypt-requires-2
+triple-encrypt-requires-2 c κs = search needs
 
 sub-lend-word : tie.Need-sub-lend-word
 sub-lend-word c = search needs
@@ -34,7 +34,7 @@ part-value-end c = search needs
 lend-word-requires-2 : tie.Need-lend-word-requires-2
 lend-word-requires-2 c κs = search needs
 
--- two words lent one behind the other
+-- two words lent one after the other
 two-words : (a b : ℕ) {v w : List ℕ} {m n k l : ℕ}
     → Written (done (wordBytes a)) (replicate 16 0) m k v → Written (done (wordBytes b)) (midOf 8 8 v) n l w
     → putMid 8 8 v w ≡ wordBytes a ++ wordBytes b
@@ -43,8 +43,8 @@ two-words a b p q = rw (p .memory, rw (p .memory) at (q .memory))
 
 returns : tie.Need-returns
 returns c =
-    let f = c .before .before .before .before .before .before .before .encipher-word in
-    let g = c .before .before .before .encipher-word2 in
+    let f = c .before .before .before .before .before .before .before .triple-encrypt in
+    let g = c .before .before .before .triple-encrypt2 in
     record {
       number = refl;
       value = two-words (f .result) (g .result) (c .before .before .before .before .before .lend-word .ensures) (c .before .lend-word2 .ensures)
@@ -55,10 +55,10 @@ pub derived-key-spec : {M : Type 1} → statement M
 derived-key-spec =
     tie.close
     (tie.spec
-    encipher-word-requires
+    triple-encrypt-requires
     slice-aggregate-lend-word
     lend-word-requires
-    encipher-word-requires-2
+    triple-encrypt-requires-2
     sub-lend-word
     part-value-start
     part-value-end

@@ -1,9 +1,11 @@
 -- `session_key` meets its contract.
 use borrow.Author.Needs.{needs}
 use borrow.Author.Tests.{eq-eqb, ne-eqb}
-use mathlib.Core.Path.{_≡_}
+use mathlib.Core.Path.{_≡_, refl}
 use Prim.Native.Nat.{ℕ, _-_, _^_, _<_}
 use native.Mathlib.Omega.{arith}
+use Rattle.lent.specs.Refusals.{size}
+use Rattle.lent.proofs.Results.{refused-double-block}
 use Rattle.lent.specs.Words.{fromBase, toBase, word}
 use Rattle.card.specs.Entries.{sessionKey}
 use Rattle.card.specs.Session.{counterBytes}
@@ -16,7 +18,7 @@ refused-double-block-requires c κs = search needs
 
 returns : tie.Need-returns
 unfolding sessionKey
-returns c = simp (ne-eqb _ _ (c .before .if1 .taken)) (c .refused-double-block .ensures)
+returns c = refused-double-block (c .refused-double-block .ensures) (size, refl, simp (ne-eqb _ _ (c .before .if1 .taken)))
 
 cast-derived-key : tie.Need-cast-derived-key
 cast-derived-key c = search needs

@@ -4,8 +4,8 @@ use mathlib.Core.Path.{_≡_, sym, _∙_}
 use Prim.Native.Nat.{_*_}
 use native.Mathlib.Omega.{arith}
 use Rattle.lent.proofs.Laws.{all-at}
-use Rattle.keyentry.specs.Hexadecimal.{hexadecimal}
-use Rattle.keyentry.proofs.Doublings.{told, not-too-large}
+use Rattle.lent.specs.Characters.{hexadecimal}
+use Rattle.keyentry.proofs.Doublings.{doubled-fits, doubled-too-large}
 use Rattle.keyentry.proofs.decoding.byte_of.Statement.{statement}
 use Rattle.keyentry.proofs.decoding.byte_of.Tie as tie
 
@@ -13,8 +13,7 @@ use Rattle.keyentry.proofs.decoding.byte_of.Tie as tie
 first : (c : tie.After-known-told) → c .before .first .given .0 .0 .0 ≡ 2 * c .before .before .before .before .before .args .place .0
 first c =
     let b = c .before .before .before in
-    told (b .before .before .args .place) (c .before .first .given .0 .0) (omega arith)
-    (sym (c .before .first .given .1) ∙ b .digits-of .ensures)
+    doubled-fits (b .before .before .args .place) (c .before .first .given .0 .0) (sym (c .before .first .given .1) ∙ b .digits-of .ensures)
 
 digits-of-requires : tie.Need-digits-of-requires
 digits-of-requires c κs = search needs
@@ -28,7 +27,7 @@ enum-told c = search needs
 returns : tie.Need-returns
 returns c =
     let b = c .before .before in
-    absurd (not-too-large (b .before .before .args .place) (omega arith) (sym (c .enum-told .given .1) ∙ b .digits-of .ensures))
+    absurd (omega (arith, doubled-too-large (b .before .before .args .place) (sym (c .enum-told .given .1) ∙ b .digits-of .ensures)))
 
 shared-slice-read-value-of : tie.Need-shared-slice-read-value-of
 shared-slice-read-value-of c = omega (arith, first (c .before))

@@ -1,16 +1,18 @@
 -- `text_bytes` meets its contract.
 use borrow.Author.Needs.{needs}
 use borrow.Author.Tests.{eq-eqb, ne-eqb, not-true, not-false}
-use mathlib.Core.Path.{_≡_, sym, _∙_}
+use mathlib.Core.Path.{_≡_, refl, sym, _∙_}
 use mathlib.Core.Bool.{true}
 use Prim.Native.Nat.{_%_}
 use native.Mathlib.Omega.{arith}
 use lib.Dec.{eqb}
 use lib.ListN.{length}
 use Rattle.lent.specs.Choice.{all}
-use Rattle.lent.proofs.Results.{refused-length}
-use Rattle.keyentry.specs.Hexadecimal.{hexadecimal}
-use Rattle.keyentry.proofs.Sizes.{odd-refused, not-hexadecimal, decoded}
+use Rattle.lent.specs.Refusals.{size, character}
+use Rattle.lent.proofs.Results.{refused-answer}
+use Rattle.lent.specs.Characters.{hexadecimal}
+use Rattle.keyentry.specs.KeyEntry.{textBytes}
+use Rattle.keyentry.proofs.Sizes.{decoded}
 use Rattle.keyentry.proofs.decoding.text_bytes.Statement.{statement}
 use Rattle.keyentry.proofs.decoding.text_bytes.Tie as tie
 
@@ -18,12 +20,11 @@ refused-requires : tie.Need-refused-requires
 refused-requires c κs = search needs
 
 returns : tie.Need-returns
-returns c =
-    refused-length (c .refused .result) (c .refused .ensures)
-    (odd-refused (c .before .before .before .before .args .text .now) (ne-eqb _ _ (c .before .if1 .taken)))
+unfolding textBytes
+returns c = refused-answer (c .refused .ensures) (size, refl, simp (ne-eqb _ _ (c .before .if1 .taken)))
 
-all-hexadecimal-requires : tie.Need-all-hexadecimal-requires
-all-hexadecimal-requires c κs = search needs
+all-of-kind-requires : tie.Need-all-of-kind-requires
+all-of-kind-requires c κs = search needs
 
 refused-requires-2 : tie.Need-refused-requires-2
 refused-requires-2 c κs = search needs
@@ -33,14 +34,15 @@ even : (c : tie.Else1) → eqb (length (c .before .before .before .args .text .n
 even c = eq-eqb _ _ (c .if1 .left)
 
 returns-2 : tie.Need-returns-2
+unfolding textBytes
 returns-2 c =
     let h = c .before .before in
-    refused-length (c .refused2 .result) (c .refused2 .ensures)
-    (not-hexadecimal _ (even (h .before)) (sym (h .all-hexadecimal .ensures) ∙ not-true _ (c .before .if2 .taken)))
+    refused-answer (c .refused2 .ensures)
+    (character, refl, simp (even (h .before), sym (h .all-of-kind .ensures) ∙ not-true _ (c .before .if2 .taken)))
 
 -- all of its characters are hexadecimal
 digits : (c : tie.Else2) → all hexadecimal (c .before .before .before .before .before .args .text .now) ≡ true
-digits c = sym (c .before .all-hexadecimal .ensures) ∙ not-false _ (c .if2 .left)
+digits c = sym (c .before .all-of-kind .ensures) ∙ not-false _ (c .if2 .left)
 
 lend-bytes-requires : tie.Need-lend-bytes-requires
 lend-bytes-requires c κs = (omega (arith, c .before .before .before .if1 .left), digits (c .before))
@@ -59,7 +61,7 @@ text-bytes-spec =
     (tie.spec
     refused-requires
     returns
-    all-hexadecimal-requires
+    all-of-kind-requires
     refused-requires-2
     returns-2
     lend-bytes-requires

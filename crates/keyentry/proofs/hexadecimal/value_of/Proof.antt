@@ -4,9 +4,9 @@ use mathlib.Core.Path.{_≡_, sym, _∙_}
 use mathlib.Core.Bool.{true, false}
 use Prim.Native.Nat.{ℕ, _≤_}
 use native.Mathlib.Omega.{arith}
-use Rattle.lent.specs.Characters.{digit, capitalized}
+use Rattle.lent.specs.Characters.{digit, capitalized, hexadecimal}
 use Rattle.lent.proofs.Laws.{between-true}
-use Rattle.keyentry.specs.Hexadecimal.{hexadecimal, valueOf}
+use Rattle.keyentry.specs.Hexadecimal.{valueOf}
 use Rattle.keyentry.proofs.hexadecimal.value_of.Statement.{statement}
 use Rattle.keyentry.proofs.hexadecimal.value_of.Tie as tie
 

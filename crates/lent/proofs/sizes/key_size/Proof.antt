@@ -1,7 +1,7 @@
 -- `key_size` meets its contract.
 use borrow.Author.Tests.{eq-eqb, ne-eqb}
-use Rattle.keyentry.proofs.entry.key_size.Statement.{statement}
-use Rattle.keyentry.proofs.entry.key_size.Tie as tie
+use Rattle.lent.proofs.sizes.key_size.Statement.{statement}
+use Rattle.lent.proofs.sizes.key_size.Tie as tie
 
 returns : tie.Need-returns
 returns c = simp (eq-eqb _ _ (c .if1 .taken))
