@@ -1,5 +1,5 @@
 mod Example
-mod Judging
+mod Reading
 mod Walking
 mod Room
 mod Joining
