@@ -5,4 +5,5 @@ mod Room
 mod Joining
 mod Rising
 mod Agreeing
+pub mod Results
 pub mod Laws

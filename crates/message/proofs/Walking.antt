@@ -3,10 +3,9 @@ use mathlib.Core.Path.{_≡_, refl, sym, ap, _∙_}
 use mathlib.Core.List.{List, [], _∷_, _++_, append-assoc, append-nil}
 use Prim.Native.Nat.{ℕ, zero, suc, _+_, _<_, _≤_}
 use native.Mathlib.Omega.{arith}
-use lib.ListN.{length, take, drop, length-append}
+use lib.ListN.{length, take, drop}
 use Rattle.lent.specs.Result.{Result, done, refused, andThen, Answered}
 use Rattle.lent.specs.declared.answers.Answer.{Answer}
-use Rattle.lent.proofs.Appending.{appended-length, both-appended}
 use Rattle.lent.proofs.Laws.{cases}
 use Rattle.lent.proofs.Results.{Refuses}
 use Rattle.message.specs.declared.records.Place.{Place}
@@ -14,7 +13,7 @@ use Rattle.message.specs.declared.records.Place.the-variants.{After}
 use Rattle.message.specs.Fields.{rule, listed}
 use Rattle.message.specs.Records.{Field, bodySize, fieldOf, recordField, records}
 use Rattle.message.specs.Text.{listedOnly}
-use Rattle.message.specs.Gathered.{spaceBeforeEach, spacedField, spaced, Appends}
+use Rattle.message.specs.Gathered.{spaceBeforeEach, spacedField, spaced}
 
 records-skip : (s : List ℕ) (n : ℕ) (place : Place) → records n place s ≡ records 0 place (drop n s)
 unfolding records
@@ -53,20 +52,7 @@ pub following-field : (p : List ℕ) (f : Field) (r : Result (List Field))
 following-field p f (done fs) = rw (spaced-next f fs, append-assoc)
 following-field p f (refused why) = refl
 
--- a refusal stays in what goes on from it
-pub refuses-then : {A B : Type 0} {num : ℕ} {r : Result A} (f : A → Result B) → Refuses num r → Refuses num (andThen r f)
-refuses-then f (why, en, e) = (why, en, rw e)
-
 -- gathering ends with a refusal
 pub refused-gathered : {answer : Result (List ℕ)} {num : ℕ} {r : Answer} (after : List ℕ) → r ≡ record { number = num; length = 0 } → Refuses num answer
     → Answered 0 answer (r .number) (take (r .length) after) × (r .length ≤ 167)
 refused-gathered after h (why, en, e) = rw (h, en, e) (record { number = refl; value = refl }, omega arith)
-
--- one value is appended after the other
-pub both-appends : {v w a b c : List ℕ} {n k r : ℕ} → Appends v a b n k → Appends w b c k r → Appends (v ++ w) a c n r
-both-appends {v = v} {w = w} {a = a} {b = b} {n = n} {k = k} p q room =
-    let long = length-append v w in
-    let first : n + length v ≤ length a = omega arith in
-    let d = p first in
-    let second : k + length w ≤ length b = omega (arith, appended-length d first, d .end) in
-    both-appended room d (q second)

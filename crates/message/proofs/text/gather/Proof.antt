@@ -17,7 +17,8 @@ use Rattle.message.specs.Fields.{rule}
 use Rattle.message.specs.Records.{bodySize, fieldOf, recordField, records, messageFields}
 use Rattle.message.specs.Gathered.{readOf, spacedField, spaced, gathered}
 use Rattle.message.proofs.Reading.{Sound, read-field, read-refused}
-use Rattle.message.proofs.Walking.{following, following-end, following-field, records-next, refuses-then, refused-gathered}
+use Rattle.message.proofs.Walking.{following, following-end, following-field, records-next, refused-gathered}
+use Rattle.message.proofs.Results.{refuses-then}
 use Rattle.message.proofs.Room.{room, room-short, room-grows}
 use Rattle.message.proofs.text.gather.Statement.{statement}
 use Rattle.message.proofs.text.gather.Tie as tie

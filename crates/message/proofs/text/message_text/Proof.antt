@@ -11,7 +11,7 @@ use Rattle.cleaning.specs.Cleaning.{cleaned}
 use Rattle.cleaning.proofs.Laws.{clean-done}
 use Rattle.message.specs.Gathered.{gathered}
 use Rattle.message.proofs.Joining.{text-gathered}
-use Rattle.message.proofs.Walking.{refuses-then}
+use Rattle.message.proofs.Results.{refuses-then}
 use Rattle.message.proofs.text.message_text.Statement.{statement}
 use Rattle.message.proofs.text.message_text.Tie as tie
 
