@@ -7,7 +7,7 @@ use mathlib.Core.List.{List}
 use Prim.Native.Nat.{ℕ, _≤_, _<_}
 use native.Mathlib.Omega.{arith}
 use lib.ListN.{length, getD}
-use Rattle.lent.specs.Refusals as numbers
+use Rattle.lent.specs.Refusals as refusals
 use Rattle.lent.specs.Result.{done, refused, Written, answerOf}
 use Rattle.lent.proofs.Bases.{to-length}
 use Rattle.host.proofs.Laws.{length-with}
@@ -27,7 +27,7 @@ pub load-as : (initial serial : List ℕ) (r : Loaded) → Load initial serial r
 unfolding answerOf loadedBytes
 load-as initial serial r load = go (load-cases initial serial)
   where
-    go : (loading initial serial ≡ done (loadedRecord initial serial)) ⊎ (loading initial serial ≡ refused numbers.size)
+    go : (loading initial serial ≡ done (loadedRecord initial serial)) ⊎ (loading initial serial ≡ refused refusals.size)
         → answerOf (r .number) (recordBytes (r .terminal)) ≡ loadedBytes initial serial
     go (inl e) = rw (load .number, load .terminal, e)
     go (inr e) = rw (load .number, load .terminal, e)
@@ -61,7 +61,7 @@ module _ (s : List ℕ) {r : NextKey} {block after : List ℕ}
       go (promises.short ok e l) h = absurd (omega arith)
       go (promises.given ok e l) h = (record { exhausted-byte = flag; hangs-together = ok }, e)
 
-  pub short-number : {keyRoom serialRoom : ℕ} → r .number ≡ 0 → (keyRoom < 8) ⊎ (serialRoom < 10) → CallNumber s keyRoom serialRoom numbers.shortBuffer
+  pub short-number : {keyRoom serialRoom : ℕ} → r .number ≡ 0 → (keyRoom < 8) ⊎ (serialRoom < 10) → CallNumber s keyRoom serialRoom refusals.shortBuffer
   short-number h why = let k = running h in short long (k .0) (k .1) why
 
   -- done, with room for the key and the serial number

@@ -11,7 +11,7 @@ use lib.Dec.{eqb, lit<}
 use lib.ListN.{length, getD, take, drop, replicate, length-append, length-drop, take-append-drop, drop-of-length-le}
 use lib.Seq.{take-at, drop-at, getD-at, take-add, drop-cons, length-take-le}
 use Rattle.lent.specs.Choice.{pick}
-use Rattle.lent.specs.Refusals as numbers
+use Rattle.lent.specs.Refusals as refusals
 use Rattle.lent.specs.Result.{over}
 use Rattle.lent.proofs.Bases.{Digits, to-length}
 use Rattle.registers.specs.Rule.{Running, Stopped}
@@ -218,7 +218,7 @@ module _ (s : List ℕ) where
 -- any other 187 bytes are refused with 11, and nothing is changed
 pub other-bytes : (s key serial sAfter keyAfter serialAfter : List ℕ) (num len : ℕ) → Called s key serial num len sAfter keyAfter serialAfter
     → length s ≡ recordSize → ¬ ValidBytes s
-    → (num ≡ numbers.badRecord) × (len ≡ 0) × (sAfter ≡ s) × (keyAfter ≡ key) × (serialAfter ≡ serial)
+    → (num ≡ refusals.badRecord) × (len ≡ 0) × (sAfter ≡ s) × (keyAfter ≡ key) × (serialAfter ≡ serial)
 other-bytes s key serial sAfter keyAfter serialAfter num len call long bad =
     let e = one-number s (length key) (length serial) (call .number) (invalid long bad) in
     (e, rw e at (call .value), rw e at (call .state), rw e at (call .key-memory), rw e at (call .serial-memory))

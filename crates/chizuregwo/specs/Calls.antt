@@ -7,7 +7,8 @@ use Prim.Native.Nat.{ℕ, _≤_, _<_}
 use lib.ListN.{length}
 use Rattle.lent.specs.Result.{Result, done, andThen, over}
 use Rattle.lent.specs.Words.{wordBytes}
-use Rattle.lent.specs.Refusals as numbers
+use Rattle.lent.specs.Refusals.{numberOf}
+use Rattle.lent.specs.Refusals as refusals
 use Rattle.registers.specs.Machine.{readyKey}
 use Rattle.host.specs.SerialNumber.{withCounter}
 use Rattle.host.specs.Derivation.{givenOut}
@@ -22,11 +23,11 @@ loadedBytes initial serial = andThen (loading initial serial) (λ t. done (recor
 
 -- the number of a call with the record's bytes s and buffers of keyRoom and serialRoom bytes, line by line
 pub data CallNumber (s : List ℕ) (keyRoom serialRoom : ℕ) : ℕ → Type 0 where
-  wrong-size : ¬ (length s ≡ recordSize) → CallNumber s keyRoom serialRoom numbers.size
-  invalid : length s ≡ recordSize → ¬ ValidBytes s → CallNumber s keyRoom serialRoom numbers.badRecord
-  exhausted : length s ≡ recordSize → ValidBytes s → terminalOf s .exhausted ≡ true → CallNumber s keyRoom serialRoom numbers.exhausted
+  wrong-size : ¬ (length s ≡ recordSize) → CallNumber s keyRoom serialRoom (numberOf refusals.size)
+  invalid : length s ≡ recordSize → ¬ ValidBytes s → CallNumber s keyRoom serialRoom (numberOf refusals.badRecord)
+  exhausted : length s ≡ recordSize → ValidBytes s → terminalOf s .exhausted ≡ true → CallNumber s keyRoom serialRoom (numberOf refusals.exhausted)
   short : length s ≡ recordSize → ValidBytes s → terminalOf s .exhausted ≡ false → (keyRoom < 8) ⊎ (serialRoom < 10)
-      → CallNumber s keyRoom serialRoom numbers.shortBuffer
+      → CallNumber s keyRoom serialRoom (numberOf refusals.shortBuffer)
   given : length s ≡ recordSize → ValidBytes s → terminalOf s .exhausted ≡ false → 8 ≤ keyRoom → 10 ≤ serialRoom
       → CallNumber s keyRoom serialRoom 0
 

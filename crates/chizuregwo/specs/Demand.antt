@@ -6,7 +6,8 @@ use Prim.Native.Nat.{ℕ, suc, _≤_, _<_}
 use lib.ListN.{length, take}
 use Rattle.lent.specs.Result.{over, Written}
 use Rattle.lent.specs.Words.{wordBytes}
-use Rattle.lent.specs.Refusals as numbers
+use Rattle.lent.specs.Refusals.{numberOf}
+use Rattle.lent.specs.Refusals as refusals
 use Rattle.registers.specs.Counters.{Nth, counterTotal}
 use Rattle.registers.specs.Trace as trace
 use Rattle.host.specs.SerialNumber.{withCounter}
@@ -79,9 +80,9 @@ module _ (derivation serial : List ℕ) where
   pub record CallDemand (n : ℕ) (s : List ℕ) (x : Call) : Type 0 where
     -- until all are given, it is refused exactly if one of its buffers is too short
     pub full : n < counterTotal → 8 ≤ length (x .key-before) → 10 ≤ length (x .serial-before) → x .number ≡ 0
-    pub short : n < counterTotal → (length (x .key-before) < 8) ⊎ (length (x .serial-before) < 10) → x .number ≡ numbers.shortBuffer
+    pub short : n < counterTotal → (length (x .key-before) < 8) ⊎ (length (x .serial-before) < 10) → x .number ≡ numberOf refusals.shortBuffer
     -- then it is refused always
-    pub over : n ≡ counterTotal → x .number ≡ numbers.exhausted
+    pub over : n ≡ counterTotal → x .number ≡ numberOf refusals.exhausted
     -- done, it gives the next key in order; refused, none
     pub done : x .number ≡ 0 → GivesNth (suc n) x
     pub refused : ¬ (x .number ≡ 0) → GivesNothing s x
