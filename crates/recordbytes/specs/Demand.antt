@@ -1,4 +1,4 @@
--- Demand 3 over the C calls (01, Terminal keys): what holds of every list of `czg_terminal_next_key` calls that starts from a loading, however long.
+-- Demand 3 over records in bytes (01, Terminal keys): what holds of every list of `next_key` calls that starts from a loading, however long.
 use mathlib.Core.Path.{_≡_}
 use mathlib.Core.Logic.{_⊎_}
 use mathlib.Core.List.{List, _∷_, _++_}
@@ -15,8 +15,8 @@ use Rattle.host.specs.Derivation.{hostKeyOf}
 use Rattle.host.specs.Entries.{initialKey, hostKey}
 use Rattle.terminal.specs.Promises.{onDone}
 use Rattle.terminal.specs.Demand as terminal
-use Rattle.chizuregwo.specs.RecordBytes.{recordSize, terminalOf, ValidBytes}
-use Rattle.chizuregwo.specs.Calls.{loadedBytes, Called}
+use Rattle.recordbytes.specs.RecordBytes.{recordSize, terminalOf, ValidBytes}
+use Rattle.recordbytes.specs.Calls.{loadedBytes, Called}
 
 -- ---- lists of calls
 
@@ -30,7 +30,7 @@ pub record Call : Type 0 where
   pub key-after : List ℕ
   pub serial-after : List ℕ
 
--- the promise of `czg_terminal_next_key` holds of the call x with the record's bytes s
+-- the promise of `next_key` holds of the call x with the record's bytes s
 abbrev pub Promise : List ℕ → Call → Type 0
 Promise s x = Called s (x .key-before) (x .serial-before) (x .number) (x .length) (x .record-after) (x .key-after) (x .serial-after)
 
@@ -72,7 +72,7 @@ module _ (derivation serial : List ℕ) where
     pub key-memory : x .key-after ≡ over (wordBytes (hostKeyOf derivation (withCounter serial counter))) (x .key-before)
     -- that serial number stands from the start of the serial buffer, the old bytes after it
     pub serial-memory : x .serial-after ≡ over (withCounter serial counter) (x .serial-before)
-    -- and whatever `czg_host_key` answers for that serial number, in a buffer with room, is done and is that key
+    -- and whatever the host writes for that serial number, in a buffer with room, is done and is that key
     pub host : (before after : List ℕ) (num len : ℕ) → Written (hostKey derivation (withCounter serial counter)) before num len after
         → 8 ≤ length before → (num ≡ 0) × (take 8 after ≡ take 8 (x .key-after))
 
@@ -101,8 +101,8 @@ module _ (derivation serial : List ℕ) where
     -- the record's bytes after the loading, when there are none before, and after each call
     pub each-record : (earlier later : List Call) → calls ≡ earlier ++ later → RecordDemand (doneIn earlier) (recordAfter s earlier)
 
--- Demand 3: for every derivation key and serial number, a done `czg_initial_key`, a done `czg_terminal_load` with the 8 bytes that it wrote and
--- the same serial number, and every list of calls from the 187 bytes on that this wrote
+-- Demand 3: for every derivation key and serial number, the host's initial key, written, a done `load` with those 8 bytes and the same serial
+-- number, and every list of calls from the 187 bytes on that this wrote
 abbrev pub Demand3 : Type 0
 Demand3 =
     (derivation serial : List ℕ)

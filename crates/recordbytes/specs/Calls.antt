@@ -1,4 +1,4 @@
--- What `czg_terminal_load` answers, and what `czg_terminal_next_key` promises of its three buffers (01, Numbers an operator sees; Terminal keys).
+-- What a loading answers, and what the call for the next key promises of its three buffers (01, Numbers an operator sees; Terminal keys).
 use mathlib.Core.Path.{_≡_}
 use mathlib.Core.Bool.{true, false}
 use mathlib.Core.Logic.{_⊎_}
@@ -15,7 +15,7 @@ use Rattle.host.specs.Derivation.{givenOut}
 use Rattle.terminal.specs.Record.{dukpt, view, afterKey}
 use Rattle.terminal.specs.Promises.{loading, onDone}
 use Rattle.terminal.specs.declared.state.Terminal.{Terminal}
-use Rattle.chizuregwo.specs.RecordBytes.{recordSize, recordBytes, terminalOf, ValidBytes}
+use Rattle.recordbytes.specs.RecordBytes.{recordSize, recordBytes, terminalOf, ValidBytes}
 
 -- the bytes of the record that a loading gives, or its refusal
 unfoldable pub loadedBytes : List ℕ → List ℕ → Result (List ℕ)
@@ -38,7 +38,7 @@ nextKey t = wordBytes (givenOut (readyKey dukpt (view t)))
 abbrev pub nextSerial : Terminal → List ℕ
 nextSerial t = withCounter (t .serial) (t .counter)
 
--- The promise of `czg_terminal_next_key`, of the record, the key buffer and the serial buffer before and after: where done, the record after the
+-- The promise of `next_key`, of the record, the key buffer and the serial buffer before and after: where done, the record after the
 -- key, the key from the start of its buffer, and the serial number with its counter from the start of the other; where refused, all three
 -- as they were.
 pub record Called (s key serial : List ℕ) (num len : ℕ) (sAfter keyAfter serialAfter : List ℕ) : Type 0 where

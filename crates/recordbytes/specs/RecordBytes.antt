@@ -5,12 +5,17 @@ use mathlib.Core.Bool.{Bool, true, false}
 use mathlib.Core.List.{List, [], _∷_, _++_}
 use Prim.Native.Nat.{ℕ, zero, suc, _^_, _≤_, _<_}
 use lib.Dec.{eqb}
-use lib.ListN.{length, getD, take, drop}
+use lib.ListN.{length, getD, drop}
 use Rattle.lent.specs.Words.{word, wordBytes, fromBase, toBase}
 use Rattle.terminal.specs.Record.{ValidRecord}
 use Rattle.terminal.specs.declared.state.Terminal.{Terminal}
+use Rattle.recordbytes.specs.Parts.{joined, cut}
 
--- the size of a record
+-- the sizes of its parts
+abbrev pub partSizes : List ℕ
+partSizes = 168 ∷ 4 ∷ 10 ∷ 4 ∷ 1 ∷ []
+
+-- their sum
 abbrev pub recordSize : ℕ
 recordSize = 187
 
@@ -30,14 +35,19 @@ abbrev pub exhaustedByte : Bool → ℕ
 exhaustedByte false = 0
 exhaustedByte true = 1
 
--- the record's bytes: 168 of registers, 4, 10, 4 and 1
-unfoldable pub recordBytes : Terminal → List ℕ
-recordBytes t =
+-- the parts of a record
+abbrev pub recordParts : Terminal → List (List ℕ)
+recordParts t =
     registerBytes (t .keys)
-    ++ numberBytes (t .filled)
-    ++ t .serial
-    ++ numberBytes (t .counter)
-    ++ exhaustedByte (t .exhausted) ∷ []
+    ∷ numberBytes (t .filled)
+    ∷ t .serial
+    ∷ numberBytes (t .counter)
+    ∷ (exhaustedByte (t .exhausted) ∷ [])
+    ∷ []
+
+-- its bytes
+unfoldable pub recordBytes : Terminal → List ℕ
+recordBytes t = joined (recordParts t)
 
 -- the parts of a record fit their types: 21 words, two numbers of 32 bits, and 10 bytes of serial number
 pub record Fits (t : Terminal) : Type 0 where
@@ -54,20 +64,24 @@ unfoldable pub registersOf : ℕ → List ℕ → List ℕ
 registersOf zero s = []
 registersOf (suc n) s = word s ∷ registersOf n (drop 8 s)
 
--- a number of 32 bits from the start of the bytes
-abbrev pub numberOf : List ℕ → ℕ
-numberOf s = fromBase 256 4 s
+-- a number of 32 bits from its 4 bytes
+abbrev pub numberRead : List ℕ → ℕ
+numberRead s = fromBase 256 4 s
+
+-- the record of five parts
+abbrev pub terminalIn : List (List ℕ) → Terminal
+terminalIn parts =
+    record {
+      keys = registersOf 21 (getD parts 0 []);
+      filled = numberRead (getD parts 1 []);
+      serial = getD parts 2 [];
+      counter = numberRead (getD parts 3 []);
+      exhausted = eqb (getD (getD parts 4 []) 0 0) 1;
+    }
 
 -- the record of 187 bytes
 unfoldable pub terminalOf : List ℕ → Terminal
-terminalOf s =
-    record {
-      keys = registersOf 21 s;
-      filled = numberOf (drop 168 s);
-      serial = take 10 (drop 172 s);
-      counter = numberOf (drop 182 s);
-      exhausted = eqb (getD s 186 0) 1;
-    }
+terminalOf s = terminalIn (cut partSizes s)
 
 -- 187 bytes are a valid record: the last of them is 0 or 1, and the record of them hangs together
 pub record ValidBytes (s : List ℕ) : Type 0 where
