@@ -14,10 +14,7 @@ enum Direction {
 pub fn key_sized(key: &[u8]) -> bool
     ensures { λ r. ⌜ r ≡ keySize (now (key .entry)) ⌝ }
 {
-    if key.len() == 8 {
-        return true;
-    }
-    key.len() == 16
+    lent::key_size(key.len())
 }
 
 // A word encrypted or decrypted under a key.
