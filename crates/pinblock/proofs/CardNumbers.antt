@@ -1,10 +1,9 @@
 -- Laws on a card number's part of a block.
-use mathlib.Core.Path.{_≡_, refl, _∙_}
+use mathlib.Core.Path.{_≡_}
 use mathlib.Core.Bool.{true}
 use mathlib.Core.List.{List, [], _∷_, _++_, map}
 use Prim.Native.Nat.{ℕ, _+_, _-_, _^_, _<_, _≤_}
 use native.Mathlib.Omega.{arith}
-use lib.Dec.{ltb}
 use lib.ListN.{length, take, drop, replicate, length-append, length-drop, length-map}
 use lib.Seq.{length-take-le, take-at, drop-append-le}
 use Rattle.lent.specs.CardNumbers.{cardSize}
@@ -14,7 +13,7 @@ use Rattle.lent.proofs.Laws.{between-true}
 use Rattle.lent.proofs.Lists.{all-take, all-drop}
 use Rattle.pinblock.specs.CardNumber.{rightmostTwelve, cardHalfBytes, cardPart}
 use Rattle.pinblock.specs.Private.{lowHalf, wordOf}
-use Rattle.pinblock.proofs.HalfBytes.{word-lt, word-of}
+use Rattle.pinblock.proofs.HalfBytes.{halfByte, word-lt, word-of}
 use Rattle.pinblock.proofs.Pins.{low-digits, values-half-bytes}
 
 pub card-long : (card : List ℕ) → cardSize card ≡ true → 13 ≤ length card
@@ -31,7 +30,7 @@ module _ (card : List ℕ) (h : cardSize card ≡ true) (d : all digit card ≡ 
       let twelve = length-take-le 12 (drop (length card - 13) card) (omega (arith, length-drop (length card - 13) card)) in
       omega (arith, length-map (rightmostTwelve card) digitValue)
 
-  card-half-bytes : all (λ x. ltb x 16) (cardHalfBytes card) ≡ true
+  card-half-bytes : all halfByte (cardHalfBytes card) ≡ true
   unfolding cardHalfBytes
   card-half-bytes = values-half-bytes (rightmostTwelve card) twelve-digits
 

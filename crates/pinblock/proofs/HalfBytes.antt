@@ -10,10 +10,10 @@ use native.Mathlib.Omega.{arith}
 use lib.Dec.{eqb, ltb, lit<}
 use lib.ListN.{length, getD, take, drop, set, length-drop, length-append}
 use lib.Seq.{getD-drop, getD-append-seam, take-suc, take-suc-set}
-use Rattle.lent.specs.Characters.{digit, digitOf}
+use Rattle.lent.specs.Characters.{digitOf}
 use Rattle.lent.specs.Choice.{all}
 use Rattle.lent.specs.Words.{fromBase, toBase}
-use Rattle.lent.proofs.Bases.{Digits, to-at, to-length, to-from, from-lt}
+use Rattle.lent.proofs.Bases.{to-at, to-length, to-from, from-lt}
 use Rattle.lent.proofs.Laws.{holdsFrom, holds-below}
 use Rattle.lent.proofs.Lists.{elements-below}
 use Rattle.lent.proofs.Parts.{from-front}
@@ -56,8 +56,12 @@ pub character-more : (s text : List ℕ) (i : ℕ) → i < length text
 character-more s text i h =
     rw (add-one i, take-suc text i 0 h, map-append, ← append-assoc) (one-more (s ++ map lowHalf (take i text)) (getD text i 0 % 16))
 
+-- a half-byte is a number below 16
+abbrev pub halfByte : ℕ → Bool
+halfByte x = ltb x 16
+
 -- Sixteen half-bytes are those of their word.
-module _ (s : List ℕ) (n : length s ≡ 16) (h : all (λ x. ltb x 16) s ≡ true) where
+module _ (s : List ℕ) (n : length s ≡ 16) (h : all halfByte s ≡ true) where
   pub word-lt : fromBase 16 16 s < 2 ^ 64
   word-lt = from-lt 16 16 s (elements-below 16 s (lit< tt) h)
 

@@ -1,12 +1,11 @@
 -- Laws on the half-bytes and the block of a permitted PIN.
 use borrow.Author.Tests.{lt-ltb}
 use mathlib.Core.Path.{_≡_, refl, sym, ap, _∙_}
-use mathlib.Core.Bool.{Bool, true}
+use mathlib.Core.Bool.{true}
 use mathlib.Core.List.{List, [], _∷_, _++_, map}
 use Prim.Native.Nat.{ℕ, zero, suc, _+_, _-_, _%_, _^_, _<_, _≤_}
 use native.Mathlib.Nat.{zero-add, mod-eq-of-lt}
 use native.Mathlib.Omega.{arith}
-use lib.Dec.{ltb}
 use lib.ListN.{length, take, replicate, length-append, length-map, length-replicate}
 use lib.Seq.{take-at}
 use Rattle.lent.specs.Choice.{between, all}
@@ -17,7 +16,7 @@ use Rattle.lent.proofs.Lists.{all-map, all-append, all-replicate, take-replicat
 use Rattle.pinblock.specs.Pin.{permitted, pinHalfBytes, pinBlock}
 use Rattle.pinblock.specs.Private.{lowHalf, wordOf}
 use Rattle.pinblock.specs.Reading.{candidate}
-use Rattle.pinblock.proofs.HalfBytes.{word-lt, word-of, half-bytes-of}
+use Rattle.pinblock.proofs.HalfBytes.{halfByte, word-lt, word-of, half-bytes-of}
 
 -- ---- digits and their values
 
@@ -42,9 +41,9 @@ low-fill : (n : ℕ) → map lowHalf (replicate n 15) ≡ replicate n 15
 low-fill zero = refl
 low-fill (suc n) = rw (low-fill n)
 
-pub values-half-bytes : (s : List ℕ) → all digit s ≡ true → all (λ x. ltb x 16) (map digitValue s) ≡ true
+pub values-half-bytes : (s : List ℕ) → all digit s ≡ true → all halfByte (map digitValue s) ≡ true
 values-half-bytes =
-    all-map digit (λ x. ltb x 16) digitValue (λ x e. let h = between-true 48 57 x e in lt-ltb (x - 48) 16 (omega arith))
+    all-map digit halfByte digitValue (λ x e. let h = between-true 48 57 x e in lt-ltb (x - 48) 16 (omega arith))
 
 -- ---- permitted PINs
 
@@ -59,12 +58,12 @@ module _ (pin : List ℕ) (h : permitted pin ≡ true) where
   unfolding pinHalfBytes
   pin-length = simp (length-append, length-map, length-replicate) (omega (arith, pin-short))
 
-  pin-half-bytes : all (λ x. ltb x 16) (pinHalfBytes pin) ≡ true
+  pin-half-bytes : all halfByte (pinHalfBytes pin) ≡ true
   unfolding pinHalfBytes
   pin-half-bytes =
       simp (lt-ltb (length pin) 16 (omega (arith, pin-short)))
-      (rw (all-append (λ x. ltb x 16) (map digitValue pin) (replicate (14 - length pin) 15), values-half-bytes pin pin-digits)
-      (all-replicate (λ x. ltb x 16) (14 - length pin) 15 refl))
+      (rw (all-append halfByte (map digitValue pin) (replicate (14 - length pin) 15), values-half-bytes pin pin-digits)
+      (all-replicate halfByte (14 - length pin) 15 refl))
 
   pub pin-block-lt : pinBlock pin < 2 ^ 64
   unfolding pinBlock

@@ -1,6 +1,6 @@
 -- Laws on the PIN of a block: it is the PIN that makes the block.
 use borrow.Author.Tests.{eqb-true, eq-eqb}
-use mathlib.Core.Path.{_≡_, refl, ap}
+use mathlib.Core.Path.{_≡_}
 use mathlib.Core.Bool.{true}
 use mathlib.Core.List.{List, map}
 use Prim.Native.Nat.{ℕ, _<_}
@@ -22,7 +22,7 @@ use Rattle.pinblock.proofs.Pins.{pin-candidate}
 -- a block is read as the PIN that makes it
 pub pin-read : (pin : List ℕ) → permitted pin ≡ true → pinOf (pinBlock pin) ≡ done pin
 unfolding pinOf pinIfMade
-pin-read pin h = rw (pin-candidate pin h, h, eq-eqb (pinBlock pin) (pinBlock pin) refl)
+pin-read pin h = simp (pin-candidate pin h, h, eq-eqb)
 
 -- a PIN that is permitted and whose block this is
 makes : (pin : List ℕ) (block : ℕ) → both (permitted pin) (eqb (pinBlock pin) block) ≡ true → (permitted pin ≡ true) × (pinBlock pin ≡ block)
