@@ -8,12 +8,12 @@ use native.Mathlib.Nat.{zero-add, mod-eq-of-lt}
 use native.Mathlib.Omega.{arith}
 use lib.ListN.{length, take, replicate, length-append, length-map, length-replicate}
 use lib.Seq.{take-at}
-use Rattle.lent.specs.Choice.{between, all}
+use Rattle.lent.specs.Choice.{all}
 use Rattle.lent.specs.Characters.{digit, digitValue, digitOf}
 use Rattle.lent.specs.Words.{fromBase, toBase}
 use Rattle.lent.proofs.Laws.{both-true, between-true}
 use Rattle.lent.proofs.Lists.{all-map, all-append, all-replicate, take-replicate}
-use Rattle.pinblock.specs.Pin.{permitted, pinHalfBytes, pinBlock}
+use Rattle.pinblock.specs.Pin.{pinSize, permitted, pinHalfBytes, pinBlock}
 use Rattle.pinblock.specs.Private.{lowHalf, wordOf}
 use Rattle.pinblock.specs.Reading.{candidate}
 use Rattle.pinblock.proofs.HalfBytes.{halfByte, word-lt, word-of, half-bytes-of}
@@ -49,10 +49,10 @@ values-half-bytes =
 
 module _ (pin : List ℕ) (h : permitted pin ≡ true) where
   pub pin-short : (4 ≤ length pin) × (length pin ≤ 12)
-  pin-short = between-true 4 12 (length pin) (both-true (between 4 12 (length pin)) (all digit pin) h .0)
+  pin-short = between-true 4 12 (length pin) (both-true (pinSize pin) _ h .0)
 
   pin-digits : all digit pin ≡ true
-  pin-digits = both-true (between 4 12 (length pin)) (all digit pin) h .1
+  pin-digits = both-true (pinSize pin) (all digit pin) h .1
 
   pin-length : length (pinHalfBytes pin) ≡ 16
   unfolding pinHalfBytes
