@@ -1,4 +1,2 @@
-pub mod RecordBytes
-pub mod Calls
-pub mod Demand
-pub mod Private
+pub mod Lent
+pub mod Version

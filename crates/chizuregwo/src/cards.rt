@@ -1,5 +1,4 @@
 // A card's keys and cryptograms.
-use crate::answers::Answer;
 use crate::answers::lend_block;
 use crate::answers::lend_double_block;
 ghost use Rattle.lent.specs.Result.{Written};
@@ -7,7 +6,7 @@ ghost use Rattle.card.specs.Entries;
 
 // Y of a card number and sequence, 8 bytes: 6, 7, 13.
 #[no_mangle]
-pub extern "C" fn czg_derivation_data(card: &[u8], sequence: u32, out: &mut [u8]) -> Answer
+pub extern "C" fn czg_derivation_data(card: &[u8], sequence: u32, out: &mut [u8]) -> lent::Answer
     ensures { λ r. ⌜ Written (Entries.derivationData (now (card .entry)) sequence) (now (out .entry)) (r .number) (r .length) (now (out .exit)) ⌝ }
 {
     lend_block(card::derivation_data(card, sequence), out)
@@ -15,7 +14,7 @@ pub extern "C" fn czg_derivation_data(card: &[u8], sequence: u32, out: &mut [u8]
 
 // The card key, 16 bytes: 6, 7, 13.
 #[no_mangle]
-pub extern "C" fn czg_card_key(master: &[u8], card: &[u8], sequence: u32, out: &mut [u8]) -> Answer
+pub extern "C" fn czg_card_key(master: &[u8], card: &[u8], sequence: u32, out: &mut [u8]) -> lent::Answer
     ensures { λ r. ⌜ Written (Entries.cardKey (now (master .entry)) (now (card .entry)) sequence) (now (out .entry)) (r .number) (r .length) (now (out .exit)) ⌝ }
 {
     lend_double_block(card::card_key(master, card, sequence), out)
@@ -23,7 +22,7 @@ pub extern "C" fn czg_card_key(master: &[u8], card: &[u8], sequence: u32, out: &
 
 // The session key of a transaction counter, 16 bytes: 6, 13.
 #[no_mangle]
-pub extern "C" fn czg_session_key(card_key: &[u8], counter: u16, out: &mut [u8]) -> Answer
+pub extern "C" fn czg_session_key(card_key: &[u8], counter: u16, out: &mut [u8]) -> lent::Answer
     ensures { λ r. ⌜ Written (Entries.sessionKey (now («card_key» .entry)) counter) (now (out .entry)) (r .number) (r .length) (now (out .exit)) ⌝ }
 {
     lend_double_block(card::session_key(card_key, counter), out)
@@ -31,7 +30,7 @@ pub extern "C" fn czg_session_key(card_key: &[u8], counter: u16, out: &mut [u8])
 
 // The ARQC of card data, 8 bytes: 6, 13.
 #[no_mangle]
-pub extern "C" fn czg_arqc(session_key: &[u8], data: &[u8], out: &mut [u8]) -> Answer
+pub extern "C" fn czg_arqc(session_key: &[u8], data: &[u8], out: &mut [u8]) -> lent::Answer
     ensures { λ r. ⌜ Written (Entries.arqc (now («session_key» .entry)) (now («data» .entry))) (now (out .entry)) (r .number) (r .length) (now (out .exit)) ⌝ }
 {
     lend_block(card::arqc(session_key, data), out)
@@ -39,7 +38,7 @@ pub extern "C" fn czg_arqc(session_key: &[u8], data: &[u8], out: &mut [u8]) -> A
 
 // The ARPC of an ARQC and a code, 8 bytes: 6, 13.
 #[no_mangle]
-pub extern "C" fn czg_arpc(session_key: &[u8], arqc: &[u8], code: &[u8], out: &mut [u8]) -> Answer
+pub extern "C" fn czg_arpc(session_key: &[u8], arqc: &[u8], code: &[u8], out: &mut [u8]) -> lent::Answer
     ensures { λ r. ⌜ Written (Entries.arpc (now («session_key» .entry)) (now (arqc .entry)) (now (code .entry))) (now (out .entry)) (r .number) (r .length) (now (out .exit)) ⌝ }
 {
     lend_block(card::arpc(session_key, arqc, code), out)

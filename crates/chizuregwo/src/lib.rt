@@ -1,9 +1,9 @@
 // The C library: each entry takes lent bytes, writes its value into lent bytes, and answers a number and the length written.
-pub mod answers;
+mod answers;
 pub mod cards;
 pub mod ciphers;
 pub mod hosts;
 pub mod messages;
 pub mod pins;
-mod record;
 pub mod terminals;
+pub mod versions;

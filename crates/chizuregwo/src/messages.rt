@@ -1,8 +1,7 @@
-// Key entry, cleaning, a message's text, and MACs.
-use crate::answers::Answer;
-use crate::answers::answered;
+// Meanings, key entry, cleaning, a message's text, and MACs.
 use crate::answers::lend_block;
 ghost use Rattle.lent.specs.Result.{Written};
+ghost use Rattle.meanings.specs.Meanings;
 ghost use Rattle.keyentry.specs.KeyEntry.{keyEntry};
 ghost use Rattle.cleaning.specs.Cleaning.{cleanText};
 ghost use Rattle.message.specs.Text.{messageText};
@@ -10,36 +9,36 @@ ghost use Rattle.mac.specs.Mac.{textMac, messageMac};
 
 // Enters a key of `wanted` bytes from hexadecimal text: 6, 7, 13.
 #[no_mangle]
-pub extern "C" fn czg_key_entry(text: &[u8], wanted: usize, out: &mut [u8]) -> Answer
+pub extern "C" fn czg_key_entry(text: &[u8], wanted: usize, out: &mut [u8]) -> lent::Answer
     ensures { λ r. ⌜ Written (keyEntry (now (text .entry)) (record { 0 = wanted })) (now (out .entry)) (r .number) (r .length) (now (out .exit)) ⌝ }
 {
     let entered = keyentry::key_entry(text, keyentry::Bytes(wanted), out);
     let size = entered.size;
-    answered(lent::Answer {
+    lent::Answer {
         number: entered.number,
         length: size.0,
-    })
+    }
 }
 
 // Cleans a text: 6, 13.
 #[no_mangle]
-pub extern "C" fn czg_clean(text: &[u8], out: &mut [u8]) -> Answer
+pub extern "C" fn czg_clean(text: &[u8], out: &mut [u8]) -> lent::Answer
     ensures { λ r. ⌜ Written (cleanText (now (text .entry))) (now (out .entry)) (r .number) (r .length) (now (out .exit)) ⌝ }
 {
-    answered(cleaning::clean(text, out))
+    cleaning::clean(text, out)
 }
 
 // Writes a message's MAC text: 6, then record by record 1, 2, 4, 3, then 13.
 #[no_mangle]
-pub extern "C" fn czg_message_text(message: &[u8], out: &mut [u8]) -> Answer
+pub extern "C" fn czg_message_text(message: &[u8], out: &mut [u8]) -> lent::Answer
     ensures { λ r. ⌜ Written (messageText (now (message .entry))) (now (out .entry)) (r .number) (r .length) (now (out .exit)) ⌝ }
 {
-    answered(message::message_text(message, out))
+    message::message_text(message, out)
 }
 
 // The MAC of free text, 8 bytes: 6, 5, 13.
 #[no_mangle]
-pub extern "C" fn czg_text_mac(key: &[u8], text: &[u8], out: &mut [u8]) -> Answer
+pub extern "C" fn czg_text_mac(key: &[u8], text: &[u8], out: &mut [u8]) -> lent::Answer
     ensures { λ r. ⌜ Written (textMac (now (key .entry)) (now (text .entry))) (now (out .entry)) (r .number) (r .length) (now (out .exit)) ⌝ }
 {
     lend_block(mac::text_mac(key, text), out)
@@ -47,8 +46,16 @@ pub extern "C" fn czg_text_mac(key: &[u8], text: &[u8], out: &mut [u8]) -> Answe
 
 // The MAC of a message, 8 bytes: 6, then record by record 1, 2, 4, 3, then 13.
 #[no_mangle]
-pub extern "C" fn czg_message_mac(key: &[u8], message: &[u8], out: &mut [u8]) -> Answer
+pub extern "C" fn czg_message_mac(key: &[u8], message: &[u8], out: &mut [u8]) -> lent::Answer
     ensures { λ r. ⌜ Written (messageMac (now (key .entry)) (now (message .entry))) (now (out .entry)) (r .number) (r .length) (now (out .exit)) ⌝ }
 {
     lend_block(mac::message_mac(key, message), out)
+}
+
+// Writes what a number means, as text: 6, 13.
+#[no_mangle]
+pub extern "C" fn czg_meaning(number: u32, out: &mut [u8]) -> lent::Answer
+    ensures { λ r. ⌜ Written (Meanings.meaning number) (now (out .entry)) (r .number) (r .length) (now (out .exit)) ⌝ }
+{
+    meanings::meaning(number, out)
 }

@@ -1,6 +1,5 @@
 -- What other crates cite: the serial number with its counter replaced, the host's keys for it, and when they are refused.
-pub use Rattle.host.proofs.Accepted.{Fit, fit}
-use borrow.Author.Tests.{eqb-true, eq-eqb}
+use borrow.Author.Tests.{eqb-true, eq-eqb, not-true}
 use mathlib.Core.Path.{_≡_, refl, sym, ap, _∙_}
 use mathlib.Core.List.{List}
 use mathlib.Core.Logic.{_↔_, if-pos, by-cases}
@@ -8,23 +7,43 @@ use mathlib.Core.Bool.{true, false, not}
 use Prim.Native.Nat.{ℕ, _+_, _*_, _/_, _%_, _^_, _<_}
 use native.Mathlib.Omega.{arith}
 use native.Mathlib.Decide.{decLt}
-use lib.Dec.{lit<}
+use lib.Dec.{lit<, eqb}
 use lib.ListN.{length, getD, take, drop, length-take, length-drop, take-append-drop, List·getD-eq-default}
 use lib.Seq.{getD-take, getD-drop}
-use Rattle.lent.specs.Refusals.{size, equalHalves, badCounter}
-use Rattle.lent.specs.Result.{Result, done}
-use Rattle.lent.specs.Words.{word, wordBytes, fromBase}
+use Rattle.lent.specs.Refusals.{size, equalHalves}
+use Rattle.lent.specs.Result.{done, require}
+use Rattle.lent.specs.Words.{word, left, right, wordBytes, fromBase}
 use Rattle.lent.proofs.Bases.{Digits, to-from}
 use Rattle.lent.proofs.Parts.{from-front}
-use Rattle.lent.proofs.Results.{Numbered, done-numbered, require-numbered}
-use Rattle.keyed.specs.Keyed.{enciphered}
-use Rattle.keyed.proofs.Laws.{enciphered-lt}
+use Rattle.lent.proofs.Results.{require-done}
+use Rattle.cipher.specs.Triple.{tripleEncrypted}
+use Rattle.cipher.proofs.Laws.{triple-encrypted-lt}
 use Rattle.registers.specs.Counters.{Permitted, permitted?}
 use Rattle.registers.specs.RegisterKey.{registerKey}
 use Rattle.host.specs.SerialNumber.{counterOf, withCounter, clearedTail}
 use Rattle.host.specs.Derivation.{oneWay, initialKeyOf, givenOut, hostKeyOf}
-use Rattle.host.specs.Entries.{sized, sameHalves, accepted, countable, initialKey, hostKey}
-use Rattle.host.proofs.Accepted.{passed}
+use Rattle.host.specs.Entries.{sameHalves, initialKey, hostKey}
+
+-- A derivation key of 16 bytes whose halves differ, and a serial number of 10 bytes.
+pub record Fit (derivation serial : List ℕ) : Type 0 where
+  pub key-size : length derivation ≡ 16
+  pub serial-size : length serial ≡ 10
+  pub differ : sameHalves derivation ≡ false
+
+module _ (derivation serial : List ℕ) where
+  -- they have an initial key, and only they
+  pub initial-done : Fit derivation serial → initialKey derivation serial ≡ done (wordBytes (initialKeyOf derivation serial))
+  unfolding initialKey
+  initial-done f = simp (f .key-size, f .serial-size, f .differ)
+
+  pub fit : {key : List ℕ} → initialKey derivation serial ≡ done key → Fit derivation serial
+  unfolding initialKey
+  fit {key} e =
+      let halves = require (not (sameHalves derivation)) equalHalves (done (wordBytes (initialKeyOf derivation serial))) in
+      let k = require-done (eqb (length derivation) 16) size (require (eqb (length serial) 10) size halves) key e in
+      let s = require-done (eqb (length serial) 10) size halves key (k .1) in
+      let h = require-done (not (sameHalves derivation)) equalHalves (done (wordBytes (initialKeyOf derivation serial))) key (s .1) in
+      record { key-size = eqb-true _ _ (k .0); serial-size = eqb-true _ _ (s .0); differ = not-true _ (h .0) }
 
 -- the bits of the counter are clear in the last eight bytes without it
 pub tail-clear : (serial : List ℕ) → clearedTail serial % 2 ^ 21 ≡ 0
@@ -62,7 +81,7 @@ module _ (serial : List ℕ) (c : ℕ) where
 
   initial-with : (derivation : List ℕ) → initialKeyOf derivation (withCounter serial c) ≡ initialKeyOf derivation serial
   unfolding initialKeyOf
-  initial-with derivation = ap (enciphered derivation) first-with
+  initial-with derivation = ap (tripleEncrypted (left derivation) (right derivation)) first-with
 
   module _ (derivation : List ℕ) (ok : Permitted c) where
     -- the host's key for it
@@ -73,19 +92,18 @@ module _ (serial : List ℕ) (c : ℕ) where
     pub host-done : Fit derivation serial → hostKey derivation (withCounter serial c) ≡ done (wordBytes (hostKeyOf derivation (withCounter serial c)))
     unfolding hostKey
     host-done f =
-        passed derivation (withCounter serial c) _ (record { key-size = f .key-size; serial-size = length-with; differ = f .differ })
-        ∙ rw (counter-with (ok .fits), if-pos (permitted? c) ok true false)
+        rw (
+          initial-done derivation (withCounter serial c) (record { key-size = f .key-size; serial-size = length-with; differ = f .differ }),
+          counter-with (ok .fits),
+          if-pos (permitted? c) ok true false,
+        )
 
 -- ---- the initial key
 
 -- it is a word
 pub initial-lt : (derivation serial : List ℕ) → initialKeyOf derivation serial < 2 ^ 64
 unfolding initialKeyOf
-initial-lt derivation serial = enciphered-lt derivation _
-
-pub initial-done : (derivation serial : List ℕ) → Fit derivation serial → initialKey derivation serial ≡ done (wordBytes (initialKeyOf derivation serial))
-unfolding initialKey
-initial-done derivation serial f = passed derivation serial _ f
+initial-lt derivation serial = triple-encrypted-lt (left derivation) (right derivation) (word serial / 32 * 32)
 
 -- ---- the halves of a derivation key
 
@@ -113,19 +131,3 @@ module _ (derivation : List ℕ) (sixteen : length derivation ≡ 16) (bytes : D
         ∙ to-from 256 8 right right-bytes (simp length-drop (omega arith)),
     λ e. eq-eqb _ _ (sym left-word ∙ ap word e),
   )
-
--- ---- no refusal has the number 0
-
-accepted-numbered : (derivation serial : List ℕ) (r : Result (List ℕ)) → Numbered r → Numbered (accepted derivation serial r)
-unfolding accepted
-accepted-numbered derivation serial r h =
-    require-numbered (sized derivation serial) size (lit< tt) (require-numbered (not (sameHalves derivation)) equalHalves (lit< tt) h)
-
-pub initial-key-numbered : (derivation serial : List ℕ) → Numbered (initialKey derivation serial)
-unfolding initialKey
-initial-key-numbered derivation serial = accepted-numbered derivation serial _ (done-numbered _)
-
-pub host-key-numbered : (derivation serial : List ℕ) → Numbered (hostKey derivation serial)
-unfolding hostKey
-host-key-numbered derivation serial =
-    accepted-numbered derivation serial _ (require-numbered (countable (counterOf serial)) badCounter (lit< tt) (done-numbered _))

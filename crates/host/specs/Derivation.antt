@@ -2,9 +2,9 @@
 use mathlib.Core.List.{List}
 use Prim.Native.Nat.{ℕ, _*_, _/_}
 use lib.Bits.{bitXor}
-use Rattle.lent.specs.Words.{word}
+use Rattle.lent.specs.Words.{word, left, right}
 use Rattle.cipher.specs.Des.{encrypted}
-use Rattle.keyed.specs.Keyed.{enciphered}
+use Rattle.cipher.specs.Triple.{tripleEncrypted}
 use Rattle.registers.specs.RegisterKey.{registerKey}
 use Rattle.host.specs.SerialNumber.{counterOf, clearedTail}
 
@@ -14,7 +14,7 @@ oneWay key block = bitXor (encrypted key (bitXor block key)) key
 
 -- the initial key: triple DES, under the derivation key's 16 bytes, of the serial number's first eight bytes with the low five bits cleared
 unfoldable pub initialKeyOf : List ℕ → List ℕ → ℕ
-initialKeyOf derivation serial = enciphered derivation (word serial / 32 * 32)
+initialKeyOf derivation serial = tripleEncrypted (left derivation) (right derivation) (word serial / 32 * 32)
 
 -- the key given out: the register key with FF exclusive-or'd into its last byte
 unfoldable pub givenOut : ℕ → ℕ

@@ -5,40 +5,32 @@ use mathlib.Core.Logic.{ite}
 use Prim.Native.Nat.{ℕ}
 use lib.Dec.{eqb}
 use lib.ListN.{length}
-use Rattle.lent.specs.Choice.{both}
 use Rattle.lent.specs.Refusals.{size, equalHalves, badCounter}
-use Rattle.lent.specs.Result.{Result, done, require}
+use Rattle.lent.specs.Result.{Result, done, require, andThen}
 use Rattle.lent.specs.Words.{left, right, wordBytes}
 use Rattle.registers.specs.Counters.{permitted?}
 use Rattle.host.specs.SerialNumber.{counterOf}
 use Rattle.host.specs.Derivation.{initialKeyOf, hostKeyOf}
 
--- a derivation key of 16 bytes and a serial number of 10
-abbrev pub sized : List ℕ → List ℕ → Bool
-sized derivation serial = both (eqb (length derivation) 16) (eqb (length serial) 10)
-
 -- the halves of a derivation key are the same eight bytes
 abbrev pub sameHalves : List ℕ → Bool
 sameHalves derivation = eqb (left derivation) (right derivation)
-
--- the result for a derivation key and a serial number that are not refused
-unfoldable pub accepted : List ℕ → List ℕ → Result (List ℕ) → Result (List ℕ)
-accepted derivation serial result =
-    require (sized derivation serial) size
-    (require (not (sameHalves derivation)) equalHalves
-    result)
 
 -- the counter is not 0 and has at most ten one bits
 abbrev pub countable : ℕ → Bool
 countable c = ite (permitted? c) true false
 
--- the eight bytes of the initial key, or the refusal
+-- the eight bytes of the initial key, or the refusal: 6 for another size, 9 for halves that are the same
 unfoldable pub initialKey : List ℕ → List ℕ → Result (List ℕ)
-initialKey derivation serial = accepted derivation serial (done (wordBytes (initialKeyOf derivation serial)))
+initialKey derivation serial =
+    require (eqb (length derivation) 16) size
+    (require (eqb (length serial) 10) size
+    (require (not (sameHalves derivation)) equalHalves
+    (done (wordBytes (initialKeyOf derivation serial)))))
 
--- the eight bytes of the host's key for the counter in the serial number, or the refusal
+-- the eight bytes of the host's key for the counter in the serial number, or the refusal: that of the initial key, then 10
 unfoldable pub hostKey : List ℕ → List ℕ → Result (List ℕ)
 hostKey derivation serial =
-    accepted derivation serial
-    (require (countable (counterOf serial)) badCounter
+    andThen (initialKey derivation serial)
+    (λ initial. require (countable (counterOf serial)) badCounter
     (done (wordBytes (hostKeyOf derivation serial))))

@@ -21,13 +21,6 @@ pub fn given_out(key: u64) -> u64
     key ^ 0xFF
 }
 
-// A counter as a number of 64 bits.
-fn wide(counter: u32) -> u64
-    ensures { λ r. ⌜ r ≡ counter ⌝ }
-{
-    counter as u64
-}
-
 // The key past place b of the counter: a one bit makes a step, with it and the bits above it set in the data.
 fn past_place(key: u64, serial: u64, counter: u32, b: u32) -> u64
     requires { ⌜ b < 21 ⌝ }
@@ -37,7 +30,7 @@ fn past_place(key: u64, serial: u64, counter: u32, b: u32) -> u64
 {
     let bits = counter >> b;
     if bits % 2 == 1 {
-        return one_way(key, serial + wide(bits << b));
+        return one_way(key, serial + lent::wide(bits << b));
     }
     key
 }

@@ -1,29 +1,15 @@
 // The serial number and the counter in it. Past the end of a short one stand zeros.
 ghost use mathlib.Core.Path.{_≡_};
-ghost use Prim.Native.Nat.{_+_, _*_, _/_, _%_, _^_, _<_};
+ghost use Prim.Native.Nat.{_+_, _*_, _/_, _%_, _^_};
 ghost use Rattle.host.specs.SerialNumber.{counterOf, withCounter, clearedTail};
-
-// A byte as a number of 32 bits.
-fn wide(b: u8) -> u32
-    ensures { λ r. ⌜ (r ≡ b) × (r < 256) ⌝ }
-{
-    b as u32
-}
-
-// The lowest byte of x.
-fn low_byte(x: u32) -> u8
-    ensures { λ r. ⌜ r ≡ x % 256 ⌝ }
-{
-    (x % 256) as u8
-}
 
 // The counter at the end of a serial number.
 pub fn counter_of(serial: &[u8]) -> u32
     ensures { λ r. ⌜ r ≡ counterOf (now (serial .entry)) ⌝ }
 {
-    let high = wide(lent::byte_at(serial, 7));
-    let middle = wide(lent::byte_at(serial, 8));
-    let low = wide(lent::byte_at(serial, 9));
+    let high = lent::byte_at(serial, 7) as u32;
+    let middle = lent::byte_at(serial, 8) as u32;
+    let low = lent::byte_at(serial, 9) as u32;
     high % 32 * 65536 + middle * 256 + low
 }
 
@@ -31,7 +17,7 @@ pub fn counter_of(serial: &[u8]) -> u32
 fn eighth_byte(old: u8, counter: u32) -> u8
     ensures { λ r. ⌜ r ≡ old / 32 * 32 + counter / 2 ^ 16 % 32 ⌝ }
 {
-    low_byte(wide(old) / 32 * 32 + counter / 65536 % 32)
+    old / 32 * 32 + (counter / 65536 % 32) as u8
 }
 
 // The serial number with its counter replaced.
@@ -47,8 +33,8 @@ pub fn with_counter(serial: &[u8], counter: u32) -> [u8; 10]
         lent::byte_at(serial, 5),
         lent::byte_at(serial, 6),
         eighth_byte(lent::byte_at(serial, 7), counter),
-        low_byte(counter / 256),
-        low_byte(counter),
+        (counter / 256 % 256) as u8,
+        (counter % 256) as u8,
     ]
 }
 

@@ -1,51 +1,42 @@
--- What callers cite: enciphered and deciphered words are words, each undoes the other, and no refusal has the number 0.
+-- What callers cite: under a key, decrypting undoes encrypting and encrypting undoes decrypting.
 use mathlib.Core.Path.{_≡_}
+use mathlib.Core.Bool.{Bool, true, false}
 use mathlib.Core.List.{List}
 use Prim.Native.Nat.{ℕ, _^_, _<_}
 use lib.Dec.{eqb}
 use lib.ListN.{length}
-use Rattle.lent.specs.Refusals.{size}
-use Rattle.lent.specs.Result.{done, require}
-use Rattle.lent.specs.Words.{word, left, right, wordBytes}
-use Rattle.lent.proofs.Laws.{cases}
-use Rattle.lent.proofs.Results.{Numbered, done-numbered, size-numbered}
+use Rattle.lent.specs.Choice.{pick}
+use Rattle.lent.specs.Words.{left, right}
+use Rattle.cipher.specs.Des.{encrypted, decrypted}
+use Rattle.cipher.specs.Triple.{tripleEncrypted, tripleDecrypted}
 use Rattle.cipher.proofs.Laws.{encrypted-lt, decrypted-lt, decrypt-encrypt, encrypt-decrypt, triple-encrypted-lt, triple-decrypted-lt, triple-decrypt-encrypt, triple-encrypt-decrypt}
-use Rattle.keyed.specs.Keyed.{keySize, blockSize, enciphered, deciphered, encipherBlock, decipherBlock}
+use Rattle.keyed.specs.Keyed.{encryptedUnder, decryptedUnder}
 
-module _ (key : List ℕ) (x : ℕ) where
-  pub enciphered-lt : enciphered key x < 2 ^ 64
-  unfolding enciphered
-  enciphered-lt =
-      cases (eqb (length key) 8) (λ e. simp e (encrypted-lt (left key) x)) (λ e. simp e (triple-encrypted-lt (left key) (right key) x))
+-- Two changes of words of 64 bits that undo each other.
+pub record Inverse (forth back : ℕ → ℕ) : Type 0 where
+  pub forth-lt : (x : ℕ) → x < 2 ^ 64 → forth x < 2 ^ 64
+  pub back-lt : (x : ℕ) → x < 2 ^ 64 → back x < 2 ^ 64
+  pub back-forth : (x : ℕ) → x < 2 ^ 64 → back (forth x) ≡ x
+  pub forth-back : (x : ℕ) → x < 2 ^ 64 → forth (back x) ≡ x
 
-  pub deciphered-lt : deciphered key x < 2 ^ 64
-  unfolding deciphered
-  deciphered-lt =
-      cases (eqb (length key) 8) (λ e. simp e (decrypted-lt (left key) x)) (λ e. simp e (triple-decrypted-lt (left key) (right key) x))
+-- under a key, whether it has 8 bytes
+by-size : (single : Bool) (left right : ℕ)
+    → Inverse (λ x. pick single (encrypted left x) (tripleEncrypted left right x)) (λ x. pick single (decrypted left x) (tripleDecrypted left right x))
+by-size true left right =
+    record {
+      forth-lt = λ x h. encrypted-lt left x;
+      back-lt = λ x h. decrypted-lt left x;
+      back-forth = decrypt-encrypt left;
+      forth-back = encrypt-decrypt left;
+    }
+by-size false left right =
+    record {
+      forth-lt = λ x h. triple-encrypted-lt left right x;
+      back-lt = λ x h. triple-decrypted-lt left right x;
+      back-forth = triple-decrypt-encrypt left right;
+      forth-back = triple-encrypt-decrypt left right;
+    }
 
-  -- deciphering undoes enciphering
-  pub decipher-encipher : x < 2 ^ 64 → deciphered key (enciphered key x) ≡ x
-  unfolding enciphered deciphered
-  decipher-encipher h =
-      cases (eqb (length key) 8) (λ e. simp e (decrypt-encrypt (left key) x h)) (λ e. simp e (triple-decrypt-encrypt (left key) (right key) x h))
-
-  -- enciphering undoes deciphering
-  pub encipher-decipher : x < 2 ^ 64 → enciphered key (deciphered key x) ≡ x
-  unfolding enciphered deciphered
-  encipher-decipher h =
-      cases (eqb (length key) 8) (λ e. simp e (encrypt-decrypt (left key) x h)) (λ e. simp e (triple-encrypt-decrypt (left key) (right key) x h))
-
--- ---- no refusal has the number 0
-
-module _ (key block : List ℕ) where
-  sized-numbered : (value : List ℕ) → Numbered (require (blockSize block) size (require (keySize key) size (done value)))
-  sized-numbered value =
-      size-numbered (blockSize block) (size-numbered (keySize key) (done-numbered value))
-
-  pub encipher-block-numbered : Numbered (encipherBlock key block)
-  unfolding encipherBlock
-  encipher-block-numbered = sized-numbered (wordBytes (enciphered key (word block)))
-
-  pub decipher-block-numbered : Numbered (decipherBlock key block)
-  unfolding decipherBlock
-  decipher-block-numbered = sized-numbered (wordBytes (deciphered key (word block)))
+pub decrypt-undoes-encrypt : (key : List ℕ) → Inverse (encryptedUnder key) (decryptedUnder key)
+unfolding encryptedUnder decryptedUnder
+decrypt-undoes-encrypt key = by-size (eqb (length key) 8) (left key) (right key)

@@ -20,24 +20,25 @@ keySize key = keySizes (length key)
 abbrev pub blockSize : List ℕ → Bool
 blockSize block = eqb (length block) 8
 
--- a word enciphered under a key
-unfoldable pub enciphered : List ℕ → ℕ → ℕ
-enciphered key x = pick (eqb (length key) 8) (encrypted (left key) x) (tripleEncrypted (left key) (right key) x)
+-- a word encrypted under a key
+unfoldable pub encryptedUnder : List ℕ → ℕ → ℕ
+encryptedUnder key x = pick (eqb (length key) 8) (encrypted (left key) x) (tripleEncrypted (left key) (right key) x)
 
--- a word deciphered under a key
-unfoldable pub deciphered : List ℕ → ℕ → ℕ
-deciphered key x = pick (eqb (length key) 8) (decrypted (left key) x) (tripleDecrypted (left key) (right key) x)
+-- a word decrypted under a key
+unfoldable pub decryptedUnder : List ℕ → ℕ → ℕ
+decryptedUnder key x = pick (eqb (length key) 8) (decrypted (left key) x) (tripleDecrypted (left key) (right key) x)
 
--- a block enciphered under a key: 6 where one of them has another size
-unfoldable pub encipherBlock : List ℕ → List ℕ → Result (List ℕ)
-encipherBlock key block =
+-- a block whose word is changed under a key: 6 if one of them has another size
+unfoldable pub changedBlock : (List ℕ → ℕ → ℕ) → List ℕ → List ℕ → Result (List ℕ)
+changedBlock change key block =
     require (blockSize block) size
     (require (keySize key) size
-    (done (wordBytes (enciphered key (word block)))))
+    (done (wordBytes (change key (word block)))))
 
--- a block deciphered under a key: 6 where one of them has another size
-unfoldable pub decipherBlock : List ℕ → List ℕ → Result (List ℕ)
-decipherBlock key block =
-    require (blockSize block) size
-    (require (keySize key) size
-    (done (wordBytes (deciphered key (word block)))))
+-- a block encrypted under a key
+abbrev pub encryptBlock : List ℕ → List ℕ → Result (List ℕ)
+encryptBlock = changedBlock encryptedUnder
+
+-- a block decrypted under a key
+abbrev pub decryptBlock : List ℕ → List ℕ → Result (List ℕ)
+decryptBlock = changedBlock decryptedUnder

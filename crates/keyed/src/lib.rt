@@ -1,43 +1,48 @@
 // The block cipher under the bytes of a key: DES under 8, triple DES under 16 (01, The job and its edge; PIN blocks).
 ghost use mathlib.Core.Path.{_≡_};
 ghost use Rattle.lent.specs.Result.{Answered};
-ghost use Rattle.keyed.specs.Keyed.{keySize, enciphered, deciphered, encipherBlock, decipherBlock};
+ghost use Rattle.keyed.specs.Keyed.{keySize, changedBlock, encryptBlock, decryptBlock};
+ghost use Rattle.keyed.specs.Private.{changedUnder};
+
+// The two directions of the cipher.
+enum Direction {
+    Encrypting,
+    Decrypting,
+}
 
 // Whether a key has 8 or 16 bytes.
 pub fn key_sized(key: &[u8]) -> bool
     ensures { λ r. ⌜ r ≡ keySize (now (key .entry)) ⌝ }
 {
-    if key.len() == 8 {
-        return true;
-    }
-    key.len() == 16
+    lent::key_size(key.len())
 }
 
-// A word enciphered under a key; past the key's end stand zeros.
-pub fn encipher_word(key: &[u8], x: u64) -> u64
-    ensures { λ r. ⌜ r ≡ enciphered (now (key .entry)) x ⌝ }
+// A word encrypted or decrypted under a key.
+fn changed_word(direction: Direction, key: &[u8], x: u64) -> u64
+    ensures { λ r. ⌜ r ≡ changedUnder direction (now (key .entry)) x ⌝ }
 {
     let left = lent::word_of(key);
-    if key.len() == 8 {
-        return cipher::encrypt(left, x);
+    let right = lent::right_half(key);
+    let single = key.len() == 8;
+    match direction {
+        Direction::Encrypting => {
+            if single {
+                return cipher::encrypt(left, x);
+            }
+            cipher::triple_encrypt(left, right, x)
+        }
+        Direction::Decrypting => {
+            if single {
+                return cipher::decrypt(left, x);
+            }
+            cipher::triple_decrypt(left, right, x)
+        }
     }
-    cipher::triple_encrypt(left, lent::right_half(key), x)
 }
 
-// A word deciphered under a key; past the key's end stand zeros.
-fn decipher_word(key: &[u8], x: u64) -> u64
-    ensures { λ r. ⌜ r ≡ deciphered (now (key .entry)) x ⌝ }
-{
-    let left = lent::word_of(key);
-    if key.len() == 8 {
-        return cipher::decrypt(left, x);
-    }
-    cipher::triple_decrypt(left, lent::right_half(key), x)
-}
-
-// A block enciphered under a key: 6 where the block has not 8 bytes or the key not 8 or 16.
-pub fn encipher_block(key: &[u8], block: &[u8]) -> lent::Block
-    ensures { λ r. ⌜ Answered 8 (encipherBlock (now (key .entry)) (now (block .entry))) (r .number) (r .value) ⌝ }
+// A block encrypted or decrypted under a key: 6 if the block does not have 8 bytes or the key 8 or 16.
+fn changed_block(direction: Direction, key: &[u8], block: &[u8]) -> lent::Block
+    ensures { λ r. ⌜ Answered 8 (changedBlock (changedUnder direction) (now (key .entry)) (now (block .entry))) (r .number) (r .value) ⌝ }
 {
     if block.len() != 8 {
         return lent::refused_block(lent::SIZE);
@@ -45,18 +50,19 @@ pub fn encipher_block(key: &[u8], block: &[u8]) -> lent::Block
     if !key_sized(key) {
         return lent::refused_block(lent::SIZE);
     }
-    lent::block_of(encipher_word(key, lent::word_of(block)))
+    lent::block_of(changed_word(direction, key, lent::word_of(block)))
 }
 
-// A block deciphered under a key: 6 where the block has not 8 bytes or the key not 8 or 16.
-pub fn decipher_block(key: &[u8], block: &[u8]) -> lent::Block
-    ensures { λ r. ⌜ Answered 8 (decipherBlock (now (key .entry)) (now (block .entry))) (r .number) (r .value) ⌝ }
+// A block encrypted under a key: 6 if the block does not have 8 bytes or the key 8 or 16.
+pub fn encrypt_block(key: &[u8], block: &[u8]) -> lent::Block
+    ensures { λ r. ⌜ Answered 8 (encryptBlock (now (key .entry)) (now (block .entry))) (r .number) (r .value) ⌝ }
 {
-    if block.len() != 8 {
-        return lent::refused_block(lent::SIZE);
-    }
-    if !key_sized(key) {
-        return lent::refused_block(lent::SIZE);
-    }
-    lent::block_of(decipher_word(key, lent::word_of(block)))
+    changed_block(Direction::Encrypting, key, block)
+}
+
+// A block decrypted under a key: 6 if the block does not have 8 bytes or the key 8 or 16.
+pub fn decrypt_block(key: &[u8], block: &[u8]) -> lent::Block
+    ensures { λ r. ⌜ Answered 8 (decryptBlock (now (key .entry)) (now (block .entry))) (r .number) (r .value) ⌝ }
+{
+    changed_block(Direction::Decrypting, key, block)
 }

@@ -16,7 +16,7 @@ pub fn byte_at(s: &[u8], i: usize) -> u8
 
 // A number of 32 bits as one of 64.
 pub fn wide(x: u32) -> u64
-    ensures { λ r. ⌜ (r ≡ x) × (r < 2 ^ 32) ⌝ }
+    ensures { λ r. ⌜ r ≡ x ⌝ }
 {
     x as u64
 }

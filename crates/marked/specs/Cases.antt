@@ -6,7 +6,7 @@ use Prim.Native.Nat.{ℕ}
 use lib.ListN.{replicate}
 use Rattle.lent.specs.Characters.{digitOf}
 use Rattle.lent.specs.Choice.{pick}
-use Rattle.lent.specs.Refusals as numbers
+use Rattle.lent.specs.Refusals as refusals
 use Rattle.lent.specs.Result.{Result, done, refused, bytes, number}
 use Rattle.lent.specs.Words.{toBase, wordBytes}
 use Rattle.cleaning.specs.Cleaning.{cleanText}
@@ -44,7 +44,7 @@ recordWith c = record { keys = replicate 21 0; filled = 0; serial = replicate 10
 
 -- the counter of a record in three bytes; an exhausted one answers 12
 abbrev pub counterIn : Terminal → Result (List ℕ)
-counterIn t = pick (t .exhausted) (refused numbers.exhausted) (done (toBase 256 3 (t .counter)))
+counterIn t = pick (t .exhausted) (refused refusals.exhausted) (done (toBase 256 3 (t .counter)))
 
 -- what the definitions answer
 unfoldable pub answer : Input → Result (List ℕ)

@@ -1,22 +1,23 @@
--- Laws on half-bytes: those of a word, and digits put in among them.
+-- Laws on half-bytes: those of a word, and the word of half-bytes.
 use borrow.Author.Tests.{eqb-true}
 use mathlib.Core.Path.{_≡_, refl, sym, ap, _∙_}
 use mathlib.Core.Bool.{Bool, true}
-use mathlib.Core.List.{List, _∷_, _++_, map, map-append, append-nil}
-use Prim.Native.Nat.{ℕ, suc, _+_, _-_, _*_, _/_, _%_, _^_, _<_, _≤_}
-use native.Mathlib.Nat.{pow-le-pow-right}
+use mathlib.Core.List.{List, [], _∷_, _++_, map, map-append, append-assoc}
+use Prim.Native.Nat.{ℕ, suc, _+_, _-_, _*_, _/_, _%_, _^_, _<_}
+use native.Mathlib.Nat.{mod-eq-of-lt}
 use native.Mathlib.Numerals.{add-one}
 use native.Mathlib.Omega.{arith}
-use lib.Dec.{eqb, lit<}
-use lib.ListN.{length, getD, take, drop, set, replicate, length-drop, length-map, List·getD-map}
-use lib.Seq.{getD-drop, take-suc, take-suc-set, paste, paste-suc}
-use Rattle.lent.proofs.Lists.{elements-below, drop-replicate}
-use Rattle.lent.specs.Characters.{digitValue, digitOf}
+use lib.Dec.{eqb, ltb, lit<}
+use lib.ListN.{length, getD, take, drop, set, length-drop, length-append}
+use lib.Seq.{getD-drop, getD-append-seam, take-suc, take-suc-set}
+use Rattle.lent.specs.Characters.{digitOf}
 use Rattle.lent.specs.Choice.{all}
-use Rattle.lent.specs.Words.{toBase}
+use Rattle.lent.specs.Words.{fromBase, toBase}
+use Rattle.lent.proofs.Bases.{to-at, to-length, to-from, from-lt}
 use Rattle.lent.proofs.Laws.{holdsFrom, holds-below}
-use Rattle.lent.proofs.Bases.{Digits, to-at, to-length}
-use Rattle.pinblock.specs.Private.{halfByte}
+use Rattle.lent.proofs.Lists.{elements-below}
+use Rattle.lent.proofs.Parts.{from-front}
+use Rattle.pinblock.specs.Private.{lowHalf, wordOf}
 
 -- ---- the half-bytes of a word
 
@@ -31,33 +32,6 @@ same-shift k h = eqb-true _ _ (holds-below sameShift 16 refl k h)
 pub half-byte-at : (x k : ℕ) → k < 16 → x / 2 ^ (60 - 4 * k) % 16 ≡ getD (toBase 16 16 x) k 0
 half-byte-at x k h = ap (λ (n : ℕ). x / n % 16) (same-shift k h) ∙ sym (to-at 16 16 x k h)
 
--- ---- half-bytes put together
-
-pub half-bytes-below : (s : List ℕ) → all halfByte s ≡ true → Digits 16 s
-half-bytes-below s e = elements-below 16 s (lit< tt) e
-
--- fewer than sixteen half-bytes leave room for one more
-pub room : {i : ℕ} → i < 16 → 16 ^ i ≤ 16 ^ 15
-room {i} h = let l : i ≤ 15 = omega arith in pow-le-pow-right (lit< tt) l
-
--- ---- digits among half-bytes
-
--- one more digit put in
-pub digit-put : (block text : List ℕ) (place i : ℕ) → place + i < length block → i < length text
-    → set (paste block place (map digitValue text) i) (place + i) (getD text i 0 - 48) ≡ paste block place (map digitValue text) (i + 1)
-digit-put block text place i h k =
-    rw (add-one i, ← List·getD-map digitValue text i 0) (paste-suc block place (map digitValue text) i 0 h (rw (length-map text digitValue) k))
-
--- digits put in after 0 and the length, with F behind
-pub pin-put : (n : ℕ) (digits : List ℕ)
-    → take 2 (0 ∷ n ∷ replicate 14 15) ++ digits ++ drop (2 + n) (0 ∷ n ∷ replicate 14 15) ≡ 0 ∷ n ∷ digits ++ replicate (14 - n) 15
-pin-put n digits = let e : 2 + n ≡ suc (suc n) = omega arith in rw (e, drop-replicate n 14 15)
-
--- twelve digits put in after 0000
-pub card-put : (text : List ℕ) → length text ≡ 12
-    → take 4 (replicate 16 0) ++ map digitValue text ++ drop (4 + length text) (replicate 16 0) ≡ replicate 4 0 ++ map digitValue text
-card-put text e = rw e (ap (λ (s : List ℕ). replicate 4 0 ++ s) (append-nil (map digitValue text)))
-
 -- one more half-byte written as text
 pub text-written : (text : List ℕ) (x i b : ℕ) → i < 12 → length text ≡ 12 → b ≡ getD (toBase 16 16 x) (2 + i) 0
     → take i text ≡ map digitOf (take i (drop 2 (toBase 16 16 x)))
@@ -66,3 +40,34 @@ text-written text x i b h n eb e =
     let s = drop 2 (toBase 16 16 x) in
     let more : i < length s = omega (arith, length-drop 2 (toBase 16 16 x), to-length 16 16 x) in
     rw (add-one i, take-suc-set text i (b + 48) (omega arith), take-suc s i 0 more, map-append, e, eb, getD-drop 2 (toBase 16 16 x) i 0)
+
+-- ---- the word of half-bytes
+
+-- with one more behind them
+one-more : (s : List ℕ) (h : ℕ) → wordOf (s ++ h ∷ []) ≡ (wordOf s * 16 + h) % 2 ^ 64
+unfolding wordOf fromBase
+one-more s h =
+    let more : length (s ++ h ∷ []) ≡ suc (length s) = length-append s (h ∷ []) ∙ add-one (length s) in
+    rw (more, from-front 16 (length s) s (h ∷ []) (omega arith), getD-append-seam s h [] 0) (omega arith)
+
+-- with one more character of a text
+pub character-more : (s text : List ℕ) (i : ℕ) → i < length text
+    → wordOf (s ++ map lowHalf (take (i + 1) text)) ≡ (wordOf (s ++ map lowHalf (take i text)) * 16 + getD text i 0 % 16) % 2 ^ 64
+character-more s text i h =
+    rw (add-one i, take-suc text i 0 h, map-append, ← append-assoc) (one-more (s ++ map lowHalf (take i text)) (getD text i 0 % 16))
+
+-- a half-byte is a number below 16
+abbrev pub halfByte : ℕ → Bool
+halfByte x = ltb x 16
+
+-- Sixteen half-bytes are those of their word.
+module _ (s : List ℕ) (n : length s ≡ 16) (h : all halfByte s ≡ true) where
+  pub word-lt : fromBase 16 16 s < 2 ^ 64
+  word-lt = from-lt 16 16 s (elements-below 16 s (lit< tt) h)
+
+  pub word-of : wordOf s ≡ fromBase 16 16 s
+  unfolding wordOf
+  word-of = rw n (mod-eq-of-lt word-lt)
+
+  pub half-bytes-of : toBase 16 16 (fromBase 16 16 s) ≡ s
+  half-bytes-of = to-from 16 16 s (elements-below 16 s (lit< tt) h) n

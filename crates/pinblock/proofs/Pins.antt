@@ -1,28 +1,24 @@
 -- Laws on the half-bytes and the block of a permitted PIN.
 use borrow.Author.Tests.{lt-ltb}
-use mathlib.Core.Path.{_≡_, refl, ap, _∙_}
+use mathlib.Core.Path.{_≡_, refl, sym, ap, _∙_}
 use mathlib.Core.Bool.{true}
-use mathlib.Core.List.{List, [], _∷_, map}
-use Prim.Native.Nat.{ℕ, _+_, _-_, _^_, _<_, _≤_}
+use mathlib.Core.List.{List, [], _∷_, _++_, map}
+use Prim.Native.Nat.{ℕ, zero, suc, _+_, _-_, _%_, _^_, _<_, _≤_}
+use native.Mathlib.Nat.{zero-add, mod-eq-of-lt}
 use native.Mathlib.Omega.{arith}
-use lib.ListN.{length, replicate, length-append, length-map, length-replicate}
+use lib.ListN.{length, take, replicate, length-append, length-map, length-replicate}
 use lib.Seq.{take-at}
-use Rattle.lent.proofs.Lists.{all-map, all-append, all-replicate}
-use Rattle.lent.specs.Choice.{between, all}
+use Rattle.lent.specs.Choice.{all}
 use Rattle.lent.specs.Characters.{digit, digitValue, digitOf}
-use Rattle.lent.specs.Words.{toBase}
+use Rattle.lent.specs.Words.{fromBase, toBase}
 use Rattle.lent.proofs.Laws.{both-true, between-true}
-use Rattle.lent.proofs.Bases.{to-from, from-lt}
-use Rattle.pinblock.specs.Pin.{permitted, pinHalfBytes, pinBlock}
-use Rattle.pinblock.specs.Private.{halfByte}
+use Rattle.lent.proofs.Lists.{all-map, all-append, all-replicate, take-replicate}
+use Rattle.pinblock.specs.Pin.{pinSize, permitted, pinHalfBytes, pinBlock}
+use Rattle.pinblock.specs.Private.{lowHalf, wordOf}
 use Rattle.pinblock.specs.Reading.{candidate}
-use Rattle.pinblock.proofs.HalfBytes.{half-bytes-below}
+use Rattle.pinblock.proofs.HalfBytes.{halfByte, word-lt, word-of, half-bytes-of}
 
 -- ---- digits and their values
-
-pub value-of-digit : (s : List ℕ) → map digitValue (map digitOf s) ≡ s
-value-of-digit [] = refl
-value-of-digit (x ∷ s) = let e : x + 48 - 48 ≡ x = omega arith in rw (e, value-of-digit s)
 
 digit-of-value : (s : List ℕ) → all digit s ≡ true → map digitOf (map digitValue s) ≡ s
 digit-of-value [] e = refl
@@ -32,6 +28,19 @@ digit-of-value (x ∷ s) e =
     let same : x - 48 + 48 ≡ x = omega arith in
     rw (same, digit-of-value s (b .1))
 
+-- a digit's low half-byte is its value
+pub low-digits : (s : List ℕ) → all digit s ≡ true → map lowHalf s ≡ map digitValue s
+low-digits [] e = refl
+low-digits (x ∷ s) e =
+    let b = both-true (digit x) (all digit s) e in
+    let h = between-true 48 57 x (b .0) in
+    let same : x % 16 ≡ x - 48 = omega arith in
+    rw (same, low-digits s (b .1))
+
+low-fill : (n : ℕ) → map lowHalf (replicate n 15) ≡ replicate n 15
+low-fill zero = refl
+low-fill (suc n) = rw (low-fill n)
+
 pub values-half-bytes : (s : List ℕ) → all digit s ≡ true → all halfByte (map digitValue s) ≡ true
 values-half-bytes =
     all-map digit halfByte digitValue (λ x e. let h = between-true 48 57 x e in lt-ltb (x - 48) 16 (omega arith))
@@ -40,16 +49,16 @@ values-half-bytes =
 
 module _ (pin : List ℕ) (h : permitted pin ≡ true) where
   pub pin-short : (4 ≤ length pin) × (length pin ≤ 12)
-  pin-short = between-true 4 12 (length pin) (both-true (between 4 12 (length pin)) (all digit pin) h .0)
+  pin-short = between-true 4 12 (length pin) (both-true (pinSize pin) _ h .0)
 
-  pub pin-digits : all digit pin ≡ true
-  pin-digits = both-true (between 4 12 (length pin)) (all digit pin) h .1
+  pin-digits : all digit pin ≡ true
+  pin-digits = both-true (pinSize pin) (all digit pin) h .1
 
   pin-length : length (pinHalfBytes pin) ≡ 16
   unfolding pinHalfBytes
   pin-length = simp (length-append, length-map, length-replicate) (omega (arith, pin-short))
 
-  pub pin-half-bytes : all halfByte (pinHalfBytes pin) ≡ true
+  pin-half-bytes : all halfByte (pinHalfBytes pin) ≡ true
   unfolding pinHalfBytes
   pin-half-bytes =
       simp (lt-ltb (length pin) 16 (omega (arith, pin-short)))
@@ -58,16 +67,23 @@ module _ (pin : List ℕ) (h : permitted pin ≡ true) where
 
   pub pin-block-lt : pinBlock pin < 2 ^ 64
   unfolding pinBlock
-  pin-block-lt = from-lt 16 16 (pinHalfBytes pin) (half-bytes-below (pinHalfBytes pin) pin-half-bytes)
+  pin-block-lt = word-lt (pinHalfBytes pin) pin-length pin-half-bytes
 
-  -- the block has the PIN's half-bytes
-  pub block-half-bytes : toBase 16 16 (pinBlock pin) ≡ pinHalfBytes pin
-  unfolding pinBlock
-  block-half-bytes = to-from 16 16 (pinHalfBytes pin) (half-bytes-below (pinHalfBytes pin) pin-half-bytes) pin-length
+  -- the block's half-bytes: 0 and the length, the digits, F up to sixteen
+  pub start-word : length pin ≡ wordOf (0 ∷ length pin ∷ [])
+  unfolding wordOf fromBase
+  start-word = sym (rw (zero-add (length pin)) (mod-eq-of-lt (omega (arith, pin-short))))
 
-  -- the PIN stands in its half-bytes
-  pub pin-candidate : candidate (pinHalfBytes pin) ≡ pin
-  unfolding candidate pinHalfBytes
+  pub pin-word : wordOf ((0 ∷ length pin ∷ [] ++ map lowHalf pin) ++ map lowHalf (take (14 - length pin) (replicate 10 15))) ≡ pinBlock pin
+  unfolding pinBlock pinHalfBytes
+  pin-word =
+      rw (low-digits pin pin-digits, take-replicate (14 - length pin) 10 15 (omega (arith, pin-short)), low-fill (14 - length pin))
+      (word-of (pinHalfBytes pin) pin-length pin-half-bytes)
+
+  -- the block has the PIN's half-bytes, and the PIN stands in them
+  pub pin-candidate : candidate (toBase 16 16 (pinBlock pin)) ≡ pin
+  unfolding candidate pinBlock pinHalfBytes
   pin-candidate =
-      ap (map digitOf) (take-at (map digitValue pin) (replicate (14 - length pin) 15) (length pin) (length-map pin digitValue))
-      ∙ digit-of-value pin pin-digits
+      rw (half-bytes-of (pinHalfBytes pin) pin-length pin-half-bytes)
+      (ap (map digitOf) (take-at (map digitValue pin) (replicate (14 - length pin) 15) (length pin) (length-map pin digitValue))
+      ∙ digit-of-value pin pin-digits)

@@ -9,7 +9,7 @@ use Rattle.lent.specs.Characters.{digit}
 use Rattle.lent.specs.Refusals.{size, character}
 use Rattle.lent.specs.Result.{Result, done, require, andThen}
 use Rattle.lent.specs.Words.{word, wordBytes}
-use Rattle.keyed.specs.Keyed.{keySize, blockSize, enciphered, decipherBlock}
+use Rattle.keyed.specs.Keyed.{keySize, blockSize, encryptBlock, decryptBlock}
 use Rattle.pinblock.specs.Pin.{pinSize, pinBlock}
 use Rattle.pinblock.specs.CardNumber.{cardPart, pinBlockWithCard}
 use Rattle.pinblock.specs.Reading.{pinOf}
@@ -41,26 +41,24 @@ readWithCard block card =
     (require (all digit card) character
     (pinOf (bitXor (word block) (cardPart card)))))
 
--- ---- enciphered blocks
+-- ---- encrypted blocks
 
--- a block that was made, enciphered
+-- a block that was made, encrypted
 unfoldable pub underKey : List ℕ → Result (List ℕ) → Result (List ℕ)
-underKey key made =
-    require (keySize key) size
-    (andThen made (λ block. done (wordBytes (enciphered key (word block)))))
+underKey key made = require (keySize key) size (andThen made (encryptBlock key))
 
--- the enciphered block of a PIN
-unfoldable pub encipher : List ℕ → List ℕ → Result (List ℕ)
-encipher pin key = underKey key (make pin)
+-- the encrypted block of a PIN
+unfoldable pub encrypt : List ℕ → List ℕ → Result (List ℕ)
+encrypt key pin = underKey key (make pin)
 
--- the enciphered block of a PIN with a card number
-unfoldable pub encipherWithCard : List ℕ → List ℕ → List ℕ → Result (List ℕ)
-encipherWithCard pin card key = underKey key (makeWithCard pin card)
+-- the encrypted block of a PIN with a card number
+unfoldable pub encryptWithCard : List ℕ → List ℕ → List ℕ → Result (List ℕ)
+encryptWithCard key pin card = underKey key (makeWithCard pin card)
 
--- the PIN of an enciphered block, which is first deciphered and then read by the same rules
-unfoldable pub decipher : List ℕ → List ℕ → Result (List ℕ)
-decipher block key = andThen (decipherBlock key block) read
+-- the PIN of an encrypted block, which is first decrypted and then read by the same rules
+unfoldable pub decrypt : List ℕ → List ℕ → Result (List ℕ)
+decrypt key block = andThen (decryptBlock key block) read
 
 -- the same with a card number
-unfoldable pub decipherWithCard : List ℕ → List ℕ → List ℕ → Result (List ℕ)
-decipherWithCard block card key = andThen (decipherBlock key block) (λ clear. readWithCard clear card)
+unfoldable pub decryptWithCard : List ℕ → List ℕ → List ℕ → Result (List ℕ)
+decryptWithCard key block card = andThen (decryptBlock key block) (λ clear. readWithCard clear card)

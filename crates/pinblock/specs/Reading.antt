@@ -15,9 +15,9 @@ unfoldable pub candidate : List ℕ → List ℕ
 candidate halfBytes = map digitOf (take (getD halfBytes 1 0) (drop 2 halfBytes))
 
 -- a PIN, if it is permitted and its block is this one
-unfoldable pub accepted : List ℕ → ℕ → Result (List ℕ)
-accepted pin block = require (both (permitted pin) (eqb (pinBlock pin) block)) noSuchPin (done pin)
+unfoldable pub pinIfMade : List ℕ → ℕ → Result (List ℕ)
+pinIfMade pin block = require (both (permitted pin) (eqb (pinBlock pin) block)) noSuchPin (done pin)
 
 -- the PIN of a block
 unfoldable pub pinOf : ℕ → Result (List ℕ)
-pinOf block = accepted (candidate (toBase 16 16 block)) block
+pinOf block = pinIfMade (candidate (toBase 16 16 block)) block

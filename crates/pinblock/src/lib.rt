@@ -1,15 +1,15 @@
-// PIN blocks, clear and enciphered (01, PIN blocks).
+// PIN blocks, clear and encrypted (01, PIN blocks).
 mod card_number;
-mod enciphered;
+mod encrypted;
 mod half_bytes;
 mod making;
 mod pin;
 mod reading;
 
-pub use enciphered::decipher;
-pub use enciphered::decipher_with_card;
-pub use enciphered::encipher;
-pub use enciphered::encipher_with_card;
+pub use encrypted::decrypt;
+pub use encrypted::decrypt_with_card;
+pub use encrypted::encrypt;
+pub use encrypted::encrypt_with_card;
 pub use making::make;
 pub use making::make_with_card;
 pub use reading::read;

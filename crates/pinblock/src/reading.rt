@@ -1,8 +1,9 @@
 // Reading clear PIN blocks.
 use crate::card_number::card_part;
 use crate::card_number::card_sized;
-use crate::half_bytes::all_between;
 use crate::half_bytes::half_byte;
+use crate::pin::pin_block;
+use crate::pin::pin_sized;
 ghost use mathlib.Core.Path.{_≡_};
 ghost use mathlib.Core.List.{map};
 ghost use Prim.Native.Nat.{_≤_};
@@ -11,26 +12,7 @@ ghost use Rattle.lent.specs.Characters.{digitOf};
 ghost use Rattle.lent.specs.Result.{Written};
 ghost use Rattle.lent.specs.Words.{toBase};
 ghost use Rattle.pinblock.specs.Entries;
-ghost use Rattle.pinblock.specs.Private.{wellFormed};
-ghost use Rattle.pinblock.specs.Reading.{pinOf};
-
-// Whether a block's half-bytes are a permitted PIN's: 0, a length from 4 to 12, as many digits, then F.
-fn well_formed(block: u64) -> bool
-    ensures { λ r. ⌜ r ≡ wellFormed (toBase 16 16 block) ⌝ }
-{
-    if half_byte(block, 0) != 0 {
-        return false;
-    }
-    let length = half_byte(block, 1);
-    if !lent::between(4, 12, length) {
-        return false;
-    }
-    let end = 2 + (length as usize);
-    if !all_between(0, 9, block, 2, end) {
-        return false;
-    }
-    all_between(15, 15, block, end, 16)
-}
+ghost use Rattle.pinblock.specs.Reading.{pinIfMade, pinOf};
 
 // The text of the first `count` half-bytes after a block's length, with zeros after it.
 fn text_of(block: u64, count: usize) -> [u8; 12]
@@ -46,31 +28,48 @@ fn text_of(block: u64, count: usize) -> [u8; 12]
     text
 }
 
-// The PIN of a clear block's word: 8 where it comes from no permitted PIN, 13 where the memory is shorter than the PIN.
-fn read_block(block: u64, out: &mut [u8]) -> lent::Answer
-    ensures { λ r. ⌜ Written (pinOf block) (now (out .entry)) (r .number) (r .length) (now (out .exit)) ⌝ }
+// A PIN, if its block is this one: 8 if it is not permitted or its block is another, 13 if the memory is shorter than the PIN.
+fn pin_if_made(pin: &[u8], block: u64, out: &mut [u8]) -> lent::Answer
+    ensures { λ r. ⌜ Written (pinIfMade (now (pin .entry)) block) (now (out .entry)) (r .number) (r .length) (now (out .exit)) ⌝ }
 {
-    if !well_formed(block) {
+    if !pin_sized(pin) {
         return lent::refused(lent::NO_SUCH_PIN);
     }
-    let count = half_byte(block, 1) as usize;
-    let text = text_of(block, count);
-    lent::lend(&text[..count], out)
+    if !lent::all_digits(pin) {
+        return lent::refused(lent::NO_SUCH_PIN);
+    }
+    if pin_block(pin) != block {
+        return lent::refused(lent::NO_SUCH_PIN);
+    }
+    lent::lend(pin, out)
 }
 
-// The PIN of a block: 6 where the block has not 8 bytes, 8 where it comes from no permitted PIN, 13 where the memory is shorter
-// than the PIN.
+// The PIN of a clear block's word: 8 if it comes from no permitted PIN, 13 if the memory is shorter than the PIN. A length above 12 is
+// no permitted PIN's.
+fn read_word(block: u64, out: &mut [u8]) -> lent::Answer
+    ensures { λ r. ⌜ Written (pinOf block) (now (out .entry)) (r .number) (r .length) (now (out .exit)) ⌝ }
+{
+    let count = half_byte(block, 1) as usize;
+    if count > 12 {
+        return lent::refused(lent::NO_SUCH_PIN);
+    }
+    let text = text_of(block, count);
+    pin_if_made(&text[..count], block, out)
+}
+
+// The PIN of a block: 6 if the block does not have 8 bytes, 8 if it comes from no permitted PIN, 13 if the memory is shorter than the
+// PIN.
 pub fn read(block: &[u8], out: &mut [u8]) -> lent::Answer
     ensures { λ r. ⌜ Written (Entries.read (now (block .entry))) (now (out .entry)) (r .number) (r .length) (now (out .exit)) ⌝ }
 {
     if block.len() != 8 {
         return lent::refused(lent::SIZE);
     }
-    read_block(lent::word_of(block), out)
+    read_word(lent::word_of(block), out)
 }
 
-// The PIN of a block with a card number: 6 where the block has not 8 bytes or the card number not 13 to 19 characters, 7 where one
-// of these is not a digit, 8 where the block comes from no permitted PIN, 13 where the memory is shorter than the PIN.
+// The PIN of a block with a card number: 6 if the block does not have 8 bytes or the card number 13 to 19 characters, 7 if one of
+// these is not a digit, 8 if the block comes from no permitted PIN, 13 if the memory is shorter than the PIN.
 pub fn read_with_card(block: &[u8], card: &[u8], out: &mut [u8]) -> lent::Answer
     ensures { λ r. ⌜ Written (Entries.readWithCard (now (block .entry)) (now (card .entry))) (now (out .entry)) (r .number) (r .length) (now (out .exit)) ⌝ }
 {
@@ -83,5 +82,5 @@ pub fn read_with_card(block: &[u8], card: &[u8], out: &mut [u8]) -> lent::Answer
     if !lent::all_digits(card) {
         return lent::refused(lent::CHARACTER);
     }
-    read_block(lent::word_of(block) ^ card_part(card), out)
+    read_word(lent::word_of(block) ^ card_part(card), out)
 }

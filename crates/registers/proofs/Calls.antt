@@ -10,7 +10,7 @@ use lib.Dec.{lit<, lit≤}
 use lib.Pow.{pow-lt}
 use lib.ListN.{length, getD, replicate, length-replicate}
 use lib.Count.{ones}
-use Rattle.lent.specs.Refusals as numbers
+use Rattle.lent.specs.Refusals as refusals
 use Rattle.lent.specs.Result.{Result, done, refused}
 use Rattle.registers.specs.Counters.{bit, Permitted, permittedTo, lastCounter, counterTotal, lowestPlace, nextAfter}
 use Rattle.registers.specs.Machine.{Device, filledMask, stepped, readyKey, moved, State, fill, keyAt, loaded, renewed, spent, outcome, after}
@@ -141,8 +141,8 @@ module _ {K G : Type 0} (device : Device K G) (initial : K) (serial : ℕ) where
 
   -- with n keys given and the state s, a call answers o and leaves t
   pub data Step (n : ℕ) (s : State K) (room : ℕ) : Result G → State K → Type 0 where
-    past : Finished device initial serial n s → Step n s room (refused numbers.exhausted) s
-    short : Ready device initial serial n s → room < device .bytes → Step n s room (refused numbers.shortBuffer) s
+    past : Finished device initial serial n s → Step n s room (refused refusals.exhausted) s
+    short : Ready device initial serial n s → room < device .bytes → Step n s room (refused refusals.shortBuffer) s
     full : {g : G} {t : State K} → Ready device initial serial n s → device .bytes ≤ room
         → GivenFor device initial serial (suc n) g → At (suc n) t → Step n s room (done g) t
 

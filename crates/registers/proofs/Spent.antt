@@ -10,7 +10,7 @@ use borrow.Author.Tests.{lt-ltb, le-ltb, ne-eqb}
 use lib.ListN.{length, getD, length-set, length-replicate, getD-replicate}
 use lib.Seq.{getD-set-same, getD-set-other}
 use lib.Count.{ones}
-use Rattle.lent.specs.Refusals as numbers
+use Rattle.lent.specs.Refusals as refusals
 use Rattle.lent.specs.Result.{done, refused}
 use Rattle.registers.specs.Counters.{bit, Permitted, lastCounter, lowestPlace, nextAfter, nextCounter}
 use Rattle.registers.specs.RegisterKey.{registerKey}
@@ -171,11 +171,11 @@ module _ {K G : Type 0} (device : Device K G) where
   -- ---- a call, by its three cases
 
   module _ (s : State K) (room : ℕ) where
-    pub call-over : s .exhausted ≡ true → (outcome device s room ≡ refused numbers.exhausted) × (after device s room ≡ s)
+    pub call-over : s .exhausted ≡ true → (outcome device s room ≡ refused refusals.exhausted) × (after device s room ≡ s)
     unfolding outcome after
     call-over e = (rw e refl, rw e refl)
 
-    pub call-short : s .exhausted ≡ false → room < device .bytes → (outcome device s room ≡ refused numbers.shortBuffer) × (after device s room ≡ s)
+    pub call-short : s .exhausted ≡ false → room < device .bytes → (outcome device s room ≡ refused refusals.shortBuffer) × (after device s room ≡ s)
     unfolding outcome after
     call-short e h = (rw (e, lt-ltb room (device .bytes) h) refl, rw (e, lt-ltb room (device .bytes) h) refl)
 

@@ -6,7 +6,7 @@ use lib.Dec.{ltb, eqb}
 use lib.ListN.{getD, set, replicate}
 use lib.Count.{ones}
 use Rattle.lent.specs.Choice.{pick}
-use Rattle.lent.specs.Refusals as numbers
+use Rattle.lent.specs.Refusals as refusals
 use Rattle.lent.specs.Result.{Result, done, refused}
 use Rattle.registers.specs.Counters.{bit, lowestPlace, nextCounter}
 
@@ -99,8 +99,8 @@ module _ {K G : Type 0} (device : Device K G) where
   -- what a call with a lent buffer of `room` bytes answers: 12 if exhausted, 13 if the buffer is too short, else the key of the next counter
   unfoldable pub outcome : State K → ℕ → Result G
   outcome s room =
-      pick (s .exhausted) (refused numbers.exhausted)
-      (pick (ltb room (device .bytes)) (refused numbers.shortBuffer)
+      pick (s .exhausted) (refused refusals.exhausted)
+      (pick (ltb room (device .bytes)) (refused refusals.shortBuffer)
       (done (device .give (readyKey s) (s .counter))))
 
   -- the state that it leaves: a refused call changes nothing

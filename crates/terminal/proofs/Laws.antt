@@ -10,7 +10,7 @@ use mathlib.Core.List.{List}
 use Prim.Native.Nat.{ℕ}
 use native.Mathlib.Omega.{arith}
 use lib.ListN.{length}
-use Rattle.lent.specs.Refusals.{size, badRecord}
+use Rattle.lent.specs.Refusals.{numberOf, size, badRecord}
 use Rattle.lent.specs.Result.{done, refused, number}
 use Rattle.registers.specs.Rule.{Running, Stopped}
 use Rattle.terminal.specs.Record.{dukpt, view, ValidRecord, loadedRecord, zeroRecord}
@@ -30,13 +30,13 @@ zero-invalid ok = go (ok .state)
     go (inl run) = omega (arith, run .permitted .from-one)
     go (inr stop) = false≢true (stop .stopped)
 
-pub zero-refused : (before after : List ℕ) (r : NextKey) → Next zeroRecord before r after → r .number ≡ badRecord
+pub zero-refused : (before after : List ℕ) (r : NextKey) → Next zeroRecord before r after → r .number ≡ numberOf badRecord
 zero-refused before after r next = one-number zeroRecord (length before) (next .number) (invalid zero-invalid)
 
 -- a refused loading is 6 and returns that record
-pub load-refused : (initial serial : List ℕ) (r : Loaded) → Load initial serial r → ¬ (r .number ≡ 0) → (r .number ≡ size) × (r .terminal ≡ zeroRecord)
+pub load-refused : (initial serial : List ℕ) (r : Loaded) → Load initial serial r → ¬ (r .number ≡ 0) → (r .number ≡ numberOf size) × (r .terminal ≡ zeroRecord)
 load-refused initial serial r load h = go (load-cases initial serial)
   where
-    go : (loading initial serial ≡ done (loadedRecord initial serial)) ⊎ (loading initial serial ≡ refused size) → (r .number ≡ size) × (r .terminal ≡ zeroRecord)
+    go : (loading initial serial ≡ done (loadedRecord initial serial)) ⊎ (loading initial serial ≡ refused size) → (r .number ≡ numberOf size) × (r .terminal ≡ zeroRecord)
     go (inl e) = absurd (h (load .number ∙ ap number e))
     go (inr e) = (load .number ∙ ap number e, load .terminal ∙ ap recordOrZero e)

@@ -12,6 +12,7 @@ use lib.Seq.{take-at, drop-at}
 use Rattle.lent.specs.Choice.{pick}
 use Rattle.lent.specs.Result.{Result, Answered, done, number, fixed, over}
 use Rattle.lent.specs.Words.{word, wordBytes}
+use Rattle.lent.proofs.Results.{answered-done}
 use Rattle.lent.proofs.Bases.{to-length, word-back}
 use Rattle.registers.specs.Counters.{Permitted, nextCounter}
 use Rattle.registers.specs.Machine.{State, readyKey, moved, ended, spent, outcome, after, loaded}
@@ -19,7 +20,7 @@ use Rattle.registers.specs.Progress.{Follows, GivenFor}
 use Rattle.registers.proofs.Laws.{Step, past, short, full, step, call-full, loaded-follows, waiting, ready-most, follows-most, follows-valid, each-call, each-record}
 use Rattle.host.specs.SerialNumber.{counterOf, withCounter, clearedTail}
 use Rattle.host.specs.Derivation.{givenOut, initialKeyOf, hostKeyOf}
-use Rattle.host.specs.Entries.{hostKey}
+use Rattle.host.specs.Entries.{initialKey, hostKey}
 use Rattle.host.proofs.Laws.{Fit, fit, counter-with, with-with, tail-with, host-with, host-done, initial-lt, initial-done}
 use Rattle.terminal.specs.Record.{dukpt, view, recordOf, ValidRecord, loadedRecord, afterKey}
 use Rattle.terminal.specs.Promises.{NextNumber}
@@ -228,7 +229,7 @@ initial-read derivation serial key e =
 
 pub demand3 : Demand3
 demand3 = λ derivation serial n key answer n-done loading promise l-done calls traced.
-    let ok = fit derivation serial (sym n-done ∙ answer .number) in
+    let ok = fit derivation serial (answered-done 8 (initialKey derivation serial) answer n-done) in
     let bytes : key ≡ wordBytes (initialKeyOf derivation serial) = answer .value ∙ ap (fixed 8) (initial-done derivation serial ok) in
     let t : loading .terminal ≡ loadedRecord key serial = loaded-done key serial promise l-done in
     let state : view (loading .terminal) ≡ loaded dukpt (initialKeyOf derivation serial) (clearedTail serial) =

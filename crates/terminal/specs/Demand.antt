@@ -6,7 +6,8 @@ use Prim.Native.Nat.{ℕ, suc, _≤_, _<_}
 use lib.ListN.{length, take, drop, replicate}
 use Rattle.lent.specs.Result.{Answered}
 use Rattle.lent.specs.Words.{wordBytes}
-use Rattle.lent.specs.Refusals as numbers
+use Rattle.lent.specs.Refusals.{numberOf}
+use Rattle.lent.specs.Refusals as refusals
 use Rattle.registers.specs.Counters.{Nth, counterTotal}
 use Rattle.registers.specs.Rule.{Blank}
 use Rattle.registers.specs.Progress.{Waits, Follows}
@@ -79,9 +80,9 @@ module _ (derivation serial : List ℕ) where
   pub record CallDemand (n : ℕ) (t : Terminal) (x : Call) : Type 0 where
     -- until all are given, it is refused exactly if its buffer is shorter than eight bytes
     pub full : n < counterTotal → 8 ≤ length (x .before) → x .answer .number ≡ 0
-    pub short : n < counterTotal → length (x .before) < 8 → x .answer .number ≡ numbers.shortBuffer
+    pub short : n < counterTotal → length (x .before) < 8 → x .answer .number ≡ numberOf refusals.shortBuffer
     -- then it is refused always
-    pub over : n ≡ counterTotal → x .answer .number ≡ numbers.exhausted
+    pub over : n ≡ counterTotal → x .answer .number ≡ numberOf refusals.exhausted
     -- done, it gives the next key in order; refused, none
     pub done : x .answer .number ≡ 0 → GivesNth (suc n) x
     pub refused : ¬ (x .answer .number ≡ 0) → GivesNothing t x

@@ -5,10 +5,11 @@ use mathlib.Core.List.{List}
 use Prim.Native.Nat.{ℕ, _≤_, _<_}
 use lib.Dec.{eqb}
 use lib.ListN.{length, replicate}
-use Rattle.lent.specs.Choice.{both, pick}
+use Rattle.lent.specs.Choice.{pick}
 use Rattle.lent.specs.Result.{Result, done, refused, require, over}
 use Rattle.lent.specs.Words.{wordBytes}
-use Rattle.lent.specs.Refusals as numbers
+use Rattle.lent.specs.Refusals.{numberOf}
+use Rattle.lent.specs.Refusals as refusals
 use Rattle.lent.specs.Result as result
 use Rattle.registers.specs.Machine.{readyKey}
 use Rattle.host.specs.SerialNumber.{withCounter}
@@ -23,8 +24,9 @@ use Rattle.terminal.specs.declared.calls.NextKey.{NextKey}
 -- the record of an initial key of 8 bytes and a serial number of 10, or the refusal
 unfoldable pub loading : List ℕ → List ℕ → Result Terminal
 loading initial serial =
-    require (both (eqb (length initial) 8) (eqb (length serial) 10)) numbers.size
-    (done (loadedRecord initial serial))
+    require (eqb (length initial) 8) refusals.size
+    (require (eqb (length serial) 10) refusals.size
+    (done (loadedRecord initial serial)))
 
 -- the record answered: the all-zero one where the loading is refused
 abbrev pub recordOrZero : Result Terminal → Terminal
@@ -40,9 +42,9 @@ pub record Load (initial serial : List ℕ) (r : Loaded) : Type 0 where
 
 -- the number of a call with the record t and a lent buffer of `room` bytes, line by line
 pub data NextNumber (t : Terminal) (room : ℕ) : ℕ → Type 0 where
-  invalid : ¬ ValidRecord t → NextNumber t room numbers.badRecord
-  exhausted : ValidRecord t → t .exhausted ≡ true → NextNumber t room numbers.exhausted
-  short : ValidRecord t → t .exhausted ≡ false → room < 8 → NextNumber t room numbers.shortBuffer
+  invalid : ¬ ValidRecord t → NextNumber t room (numberOf refusals.badRecord)
+  exhausted : ValidRecord t → t .exhausted ≡ true → NextNumber t room (numberOf refusals.exhausted)
+  short : ValidRecord t → t .exhausted ≡ false → room < 8 → NextNumber t room (numberOf refusals.shortBuffer)
   given : ValidRecord t → t .exhausted ≡ false → 8 ≤ room → NextNumber t room 0
 
 -- by the number: a where done, else b

@@ -5,13 +5,6 @@ ghost use Rattle.registers.specs.Counters.{Permitted};
 ghost use Rattle.registers.specs.Machine.{fill, stepped, renewed};
 ghost use Rattle.terminal.specs.Record.{dukpt};
 
-// A counter as a number of 64 bits.
-fn wide(counter: u32) -> u64
-    ensures { λ r. ⌜ r ≡ counter ⌝ }
-{
-    counter as u64
-}
-
 // The first n registers filled from the key of the counter c, each by one step with its own bit set in the data; the others are kept.
 pub(crate) fn filled_from(keys: [u64; 21], n: usize, key: u64, serial: u64, c: u32) -> [u64; 21]
     requires { ⌜ n ≤ 21 ⌝ }
@@ -22,7 +15,7 @@ pub(crate) fn filled_from(keys: [u64; 21], n: usize, key: u64, serial: u64, c: u
     let mut out = keys;
     let mut b: usize = 0;
     while b < n {
-        out[b] = host::one_way(key, serial + wide(c + (1u32 << b)));
+        out[b] = host::one_way(key, serial + lent::wide(c + (1u32 << b)));
         b += 1;
     }
     out

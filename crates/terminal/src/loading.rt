@@ -2,7 +2,7 @@
 use crate::filling::filled_from;
 use crate::state::Terminal;
 ghost use mathlib.Core.Path.{_≡_};
-ghost use Rattle.lent.specs.Refusals.{size};
+ghost use Rattle.lent.specs.Refusals.{numberOf, size};
 ghost use Rattle.terminal.specs.Record.{zeroRecord};
 ghost use Rattle.terminal.specs.Promises.{Load};
 
@@ -14,7 +14,7 @@ pub struct Loaded {
 
 // The refusal of a loading.
 fn refused() -> Loaded
-    ensures { λ r. ⌜ r ≡ record { number = size; terminal = zeroRecord } ⌝ }
+    ensures { λ r. ⌜ r ≡ record { number = numberOf size; terminal = zeroRecord } ⌝ }
 {
     Loaded {
         number: lent::SIZE,

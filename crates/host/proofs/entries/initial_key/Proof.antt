@@ -1,26 +1,49 @@
 -- `host::entries::initial_key` meets its contract.
 use borrow.Author.Needs.{needs}
-use mathlib.Core.Path.{sym, _∙_}
-use Rattle.host.specs.Entries.{initialKey}
-use Rattle.host.proofs.Accepted.{Fit, fit, passed, refused-both}
+use borrow.Author.Tests.{eq-eqb, ne-eqb}
+use mathlib.Core.Bool.{true, false}
+use mathlib.Core.Path.{_≡_, refl, sym, _∙_}
+use lib.ListN.{drop}
+use Rattle.lent.specs.Refusals.{size, equalHalves}
+use Rattle.lent.specs.Words.{word}
+use Rattle.lent.proofs.Results.{refused-block}
+use Rattle.host.specs.Entries.{sameHalves, initialKey}
 use Rattle.host.proofs.entries.initial_key.Statement.{statement}
 use Rattle.host.proofs.entries.initial_key.Tie as tie
 
--- what has passed the tests
-fits : (c : tie.Else1) → Fit (c .before .before .before .before .args .derivation .now) (c .before .before .before .before .args .serial .now)
-fits c = fit _ _ (sym (c .if1 .left) ∙ c .before .refusal .ensures)
-
-refusal-requires : tie.Need-refusal-requires
-refusal-requires c κs = search needs
 
 refused-block-requires : tie.Need-refused-block-requires
 refused-block-requires c κs = search needs
 
 returns : tie.Need-returns
 unfolding initialKey
-returns c =
-    let a = c .before .before .before .before .before .args in
-    rw (refused-both (a .derivation .now) (a .serial .now) _ (c .before .before .refusal .ensures) (c .before .if1 .taken)) (c .refused-block .ensures)
+returns c = refused-block (c .refused-block .ensures) (size, refl, simp (ne-eqb _ _ (c .before .if1 .taken)))
+
+refused-block-requires-2 : tie.Need-refused-block-requires-2
+refused-block-requires-2 c κs = search needs
+
+returns-2 : tie.Need-returns-2
+unfolding initialKey
+returns-2 c =
+    let e = c .before .before in
+    refused-block (c .refused-block2 .ensures) (size, refl, simp (eq-eqb _ _ (e .if1 .left), ne-eqb _ _ (c .before .if2 .taken)))
+
+word-of-requires : tie.Need-word-of-requires
+word-of-requires c κs = search needs
+
+right-half-requires : tie.Need-right-half-requires
+right-half-requires c κs = search needs
+
+refused-block-requires-3 : tie.Need-refused-block-requires-3
+refused-block-requires-3 c κs = search needs
+
+returns-3 : tie.Need-returns-3
+unfolding initialKey
+returns-3 c =
+    let k = c .before .before .before in
+    let e = k .before .before in
+    let same : sameHalves (e .before .before .before .args .derivation .now) ≡ true = eq-eqb _ _ (sym (k .word-of .ensures) ∙ c .before .if3 .taken ∙ c .before .before .right-half .ensures) in
+    refused-block (c .refused-block3 .ensures) (equalHalves, refl, simp (eq-eqb _ _ (e .if1 .left), eq-eqb _ _ (k .before .if2 .left), same))
 
 initial-word-requires : tie.Need-initial-word-requires
 initial-word-requires c κs = search needs
@@ -28,19 +51,28 @@ initial-word-requires c κs = search needs
 block-of-requires : tie.Need-block-of-requires
 block-of-requires c κs = search needs
 
-returns-2 : tie.Need-returns-2
+returns-4 : tie.Need-returns-4
 unfolding initialKey
-returns-2 c =
-    let a = c .before .before .before .before .before .before .args in
-    rw (passed (a .derivation .now) (a .serial .now) _ (fits (c .before .before)), ← c .before .initial-word .ensures) (c .block-of .ensures)
+returns-4 c =
+    let k = c .before .before .before .before in
+    let e = k .before .before in
+    let a = e .before .before .before .args .derivation .now in
+    let differ : sameHalves a ≡ false =
+    ne-eqb (word a) (word (drop 8 a)) (λ h. c .before .before .if3 .left (k .word-of .ensures ∙ h ∙ sym (c .before .before .before .right-half .ensures))) in
+    simp (eq-eqb _ _ (e .if1 .left), eq-eqb _ _ (k .before .if2 .left), differ, ← c .before .initial-word .ensures) (c .block-of .ensures)
 
 pub initial-key-spec : {M : Type 1} → statement M
 initial-key-spec =
     tie.close
     (tie.spec
-    refusal-requires
     refused-block-requires
     returns
+    refused-block-requires-2
+    returns-2
+    word-of-requires
+    right-half-requires
+    refused-block-requires-3
+    returns-3
     initial-word-requires
     block-of-requires
-    returns-2)
+    returns-4)

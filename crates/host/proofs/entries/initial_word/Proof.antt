@@ -1,30 +1,45 @@
 -- `host::entries::initial_word` meets its contract.
 use borrow.Author.Needs.{needs}
-use mathlib.Core.Path.{_≡_, ap, _∙_}
+use mathlib.Core.Path.{_≡_}
 use Prim.Native.Nat.{_-_, _*_, _/_, _%_}
 use native.Mathlib.Omega.{arith}
 use Rattle.lent.specs.Words.{word}
-use Rattle.keyed.specs.Keyed.{enciphered}
 use Rattle.host.specs.Derivation.{initialKeyOf}
 use Rattle.host.proofs.entries.initial_word.Statement.{statement}
 use Rattle.host.proofs.entries.initial_word.Tie as tie
 
+
 word-of-requires : tie.Need-word-of-requires
 word-of-requires c κs = search needs
 
-sub-encipher-word : tie.Need-sub-encipher-word
-sub-encipher-word c = search needs
+word-of-requires-2 : tie.Need-word-of-requires-2
+word-of-requires-2 c κs = search needs
 
-encipher-word-requires : tie.Need-encipher-word-requires
-encipher-word-requires c κs = search needs
+right-half-requires : tie.Need-right-half-requires
+right-half-requires c κs = search needs
+
+sub-triple-encrypt : tie.Need-sub-triple-encrypt
+sub-triple-encrypt c = search needs
+
+triple-encrypt-requires : tie.Need-triple-encrypt-requires
+triple-encrypt-requires c κs = search needs
 
 returns : tie.Need-returns
 unfolding initialKeyOf
 returns c =
-    let a = c .before .before .before .before .args in
-    let x = c .before .word-of .result in
-    let cleared : x - x % 32 ≡ word (a .serial .now) / 32 * 32 = omega (arith, c .before .word-of .ensures) in
-    c .encipher-word .ensures ∙ ap (enciphered (a .derivation .now)) cleared
+    let k = c .before .before in
+    let x = k .before .word-of .result in
+    let serial = k .before .before .before .before .args .serial .now in
+    let cleared : x - x % 32 ≡ word serial / 32 * 32 = omega (arith, k .before .word-of .ensures) in
+    rw (← cleared, ← k .word-of2 .ensures, ← c .before .right-half .ensures) (c .triple-encrypt .ensures)
 
 pub initial-word-spec : {M : Type 1} → statement M
-initial-word-spec = tie.close (tie.spec word-of-requires sub-encipher-word encipher-word-requires returns)
+initial-word-spec =
+    tie.close
+    (tie.spec
+    word-of-requires
+    word-of-requires-2
+    right-half-requires
+    sub-triple-encrypt
+    triple-encrypt-requires
+    returns)

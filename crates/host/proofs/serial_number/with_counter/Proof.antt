@@ -4,6 +4,7 @@ use Rattle.host.specs.SerialNumber.{withCounter}
 use Rattle.host.proofs.serial_number.with_counter.Statement.{statement}
 use Rattle.host.proofs.serial_number.with_counter.Tie as tie
 
+
 byte-at-requires : tie.Need-byte-at-requires
 byte-at-requires c κs = search needs
 
@@ -31,11 +32,11 @@ byte-at-requires-8 c κs = search needs
 eighth-byte-requires : tie.Need-eighth-byte-requires
 eighth-byte-requires c κs = search needs
 
-low-byte-requires : tie.Need-low-byte-requires
-low-byte-requires c κs = search needs
+cast-t14 : tie.Need-cast-t14
+cast-t14 c = search needs
 
-low-byte-requires-2 : tie.Need-low-byte-requires-2
-low-byte-requires-2 c κs = search needs
+cast-t16 : tie.Need-cast-t16
+cast-t16 c = search needs
 
 returns : tie.Need-returns
 unfolding withCounter
@@ -54,6 +55,6 @@ with-counter-spec =
     byte-at-requires-7
     byte-at-requires-8
     eighth-byte-requires
-    low-byte-requires
-    low-byte-requires-2
+    cast-t14
+    cast-t16
     returns)

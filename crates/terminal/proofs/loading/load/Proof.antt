@@ -1,11 +1,12 @@
 -- `terminal::loading::load` meets its contract.
 use borrow.Author.Needs.{needs}
+use borrow.Author.Tests.{eq-eqb, ne-eqb}
 use native.Mathlib.Omega.{arith}
 use lib.Dec.{lit≤}
 use Rattle.registers.specs.Machine.{loaded}
 use Rattle.host.proofs.Laws.{tail-clear}
 use Rattle.terminal.specs.Record.{loadedRecord}
-use Rattle.terminal.proofs.Loadings.{key-refused, serial-refused, load-done}
+use Rattle.terminal.specs.Promises.{loading}
 use Rattle.terminal.proofs.loading.load.Statement.{statement}
 use Rattle.terminal.proofs.loading.load.Tie as tie
 
@@ -13,17 +14,20 @@ refused-requires : tie.Need-refused-requires
 refused-requires c κs = search needs
 
 returns : tie.Need-returns
+unfolding loading
 returns c =
-    let a = c .before .before .before .before .args in
-    rw (c .refused .ensures) (key-refused (a .initial .now) (a .serial .now) (c .before .if1 .taken))
+    let e = ne-eqb _ _ (c .before .if1 .taken) in
+    rw (c .refused .ensures) (record { number = simp e; terminal = simp e })
 
 refused-requires-2 : tie.Need-refused-requires-2
 refused-requires-2 c κs = search needs
 
 returns-2 : tie.Need-returns-2
+unfolding loading
 returns-2 c =
-    let a = c .before .before .before .before .before .args in
-    rw (c .refused2 .ensures) (serial-refused (a .initial .now) (a .serial .now) (c .before .before .if1 .left) (c .before .if2 .taken))
+    let e = eq-eqb _ _ (c .before .before .if1 .left) in
+    let f = ne-eqb _ _ (c .before .if2 .taken) in
+    rw (c .refused2 .ensures) (record { number = simp (e, f); terminal = simp (e, f) })
 
 word-of-requires : tie.Need-word-of-requires
 word-of-requires c κs = search needs
@@ -42,11 +46,15 @@ with-counter-requires : tie.Need-with-counter-requires
 with-counter-requires c κs = search needs
 
 returns-3 : tie.Need-returns-3
-unfolding loadedRecord loaded
+unfolding loading loadedRecord loaded
 returns-3 c =
-    let a = c .before .before .before .before .before .before .before .before .before .args in
-    load-done (a .initial .now) (a .serial .now) (c .before .before .before .before .before .before .if1 .left) (c .before .before .before .before .before .if2 .left) _
-    (rw (c .before .before .filled-from .ensures, c .before .filled-mask .ensures, c .with-counter .ensures, c .before .before .before .cleared-tail .ensures, c .before .before .before .before .word-of .ensures))
+    let i = c .before .before .before .before .before in
+    let e = eq-eqb _ _ (i .before .if1 .left) in
+    let f = eq-eqb _ _ (i .if2 .left) in
+    record {
+      number = simp (e, f);
+      terminal = simp (e, f) (rw (c .before .before .filled-from .ensures, c .before .filled-mask .ensures, c .with-counter .ensures, c .before .before .before .cleared-tail .ensures, c .before .before .before .before .word-of .ensures));
+    }
 
 pub load-spec : {M : Type 1} → statement M
 load-spec =

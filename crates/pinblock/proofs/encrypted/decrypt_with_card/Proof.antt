@@ -1,0 +1,24 @@
+-- `pinblock::encrypted::decrypt_with_card` meets its contract.
+use borrow.Author.Needs.{needs}
+use Rattle.lent.proofs.Results.{answered-done, answered-refused, refused-answer}
+use Rattle.pinblock.specs.Entries.{readWithCard, decryptWithCard}
+use Rattle.pinblock.proofs.Readings.{refused-on}
+use Rattle.pinblock.proofs.encrypted.decrypt_with_card.Statement.{statement}
+use Rattle.pinblock.proofs.encrypted.decrypt_with_card.Tie as tie
+
+returns : tie.Need-returns
+unfolding decryptWithCard
+returns c =
+    refused-answer (c .refused .ensures)
+    (refused-on (λ clear. readWithCard clear _) (answered-refused 8 _ (c .before .before .before .decrypt-block .ensures) (c .before .if1 .taken)))
+
+returns-2 : tie.Need-returns-2
+unfolding decryptWithCard
+returns-2 c =
+    let e = c .before .before .before .before .before .before in
+    rw (answered-done 8 _ (e .before .before .decrypt-block .ensures) (e .if1 .left)) (c .before .before .read-with-card .ensures)
+
+pub decrypt-with-card-spec : {M : Type 1} → statement M
+decrypt-with-card-spec =
+    tie.close
+    (tie.spec (λ c κs. search needs) (λ c κs. search needs) returns (λ c. search needs) (λ c κs. search needs) (λ c. search needs) returns-2)

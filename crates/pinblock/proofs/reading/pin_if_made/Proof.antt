@@ -1,0 +1,45 @@
+-- `pinblock::reading::pin_if_made` meets its contract.
+use borrow.Author.Needs.{needs}
+use borrow.Author.Tests.{eq-eqb, ne-eqb, not-true, not-false}
+use mathlib.Core.Path.{_≡_, refl, sym, _∙_}
+use mathlib.Core.Bool.{true}
+use Rattle.lent.specs.Refusals.{noSuchPin}
+use Rattle.lent.proofs.Results.{refused-answer}
+use Rattle.pinblock.specs.Pin.{pinSize, permitted}
+use Rattle.pinblock.specs.Reading.{pinIfMade}
+use Rattle.pinblock.proofs.reading.pin_if_made.Statement.{statement}
+use Rattle.pinblock.proofs.reading.pin_if_made.Tie as tie
+
+returns : tie.Need-returns
+unfolding pinIfMade
+returns c = refused-answer (c .refused .ensures) (noSuchPin, refl, simp (sym (c .before .before .pin-sized .ensures) ∙ not-true _ (c .before .if1 .taken)))
+
+long : (c : tie.Else1) → pinSize (c .before .before .before .before .args .pin .now) ≡ true
+long c = sym (c .before .pin-sized .ensures) ∙ not-false _ (c .if1 .left)
+
+returns-2 : tie.Need-returns-2
+unfolding pinIfMade
+returns-2 c =
+    let no = sym (c .before .before .all-digits .ensures) ∙ not-true _ (c .before .if2 .taken) in
+    refused-answer (c .refused2 .ensures) (noSuchPin, refl, simp (long (c .before .before .before), no))
+
+allowed : (c : tie.Else2) → permitted (c .before .before .before .before .before .before .args .pin .now) ≡ true
+allowed c = rw (long (c .before .before)) (sym (c .before .all-digits .ensures) ∙ not-false _ (c .if2 .left))
+
+returns-3 : tie.Need-returns-3
+unfolding pinIfMade
+returns-3 c =
+    let b = c .before .before in
+    refused-answer (c .refused3 .ensures) (noSuchPin, refl, rw (allowed (b .before), ← b .pin-block .ensures, ne-eqb _ _ (c .before .if3 .taken)))
+
+returns-4 : tie.Need-returns-4
+unfolding pinIfMade
+returns-4 c =
+    let e = c .before .before .before .before in
+    rw (allowed (e .before .before), ← e .before .pin-block .ensures, eq-eqb _ _ (e .if3 .left)) (c .before .before .lend .ensures)
+
+pub pin-if-made-spec : {M : Type 1} → statement M
+pin-if-made-spec =
+    tie.close
+    (tie.spec (λ c κs. search needs) (λ c κs. search needs) returns (λ c κs. search needs) (λ c κs. search needs) returns-2 (λ c κs. allowed c)
+    (λ c κs. search needs) returns-3 (λ c κs. search needs) (λ c. search needs) returns-4)
