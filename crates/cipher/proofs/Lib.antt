@@ -7,5 +7,4 @@ mod Parity
 mod Permutation
 mod Range
 mod RoundKeys
-mod Substitution
 mod Vectors

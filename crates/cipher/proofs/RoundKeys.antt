@@ -31,12 +31,12 @@ rotation {n} {half} hn h = ap (λ (y : ℕ). (y + half / 2 ^ (28 - n)) % 2 ^ 28)
 
 -- ---- the round keys
 
-pub keys-step : (shifts keys : List ℕ) (i c d n c′ d′ key : ℕ) → i < length keys → i < length shifts → n ≡ getD shifts i 0
-    → c′ ≡ rotatedLeft n c → d′ ≡ rotatedLeft n d → key ≡ permuted 56 permutedChoice2 (c′ * 2 ^ 28 + d′)
+pub keys-step : (shifts keys : List ℕ) (i c d c′ d′ key : ℕ) → i < length keys → i < length shifts
+    → c′ ≡ rotatedLeft (getD shifts i 0) c → d′ ≡ rotatedLeft (getD shifts i 0) d → key ≡ permuted 56 permutedChoice2 (c′ * 2 ^ 28 + d′)
     → take (i + 1) (set keys i key) ++ keysFrom (drop (i + 1) shifts) c′ d′ ≡ take i keys ++ keysFrom (drop i shifts) c d
 unfolding keysFrom
-keys-step shifts keys i c d n c′ d′ key hk hs en ec ed ek =
-    rw (add-one i, take-suc-set keys i key hk, append-assoc, ek, ec, ed, en)
+keys-step shifts keys i c d c′ d′ key hk hs ec ed ek =
+    rw (add-one i, take-suc-set keys i key hk, append-assoc, ek, ec, ed)
     (sym (ap (λ (t : List ℕ). take i keys ++ keysFrom t c d) (drop-cons shifts i 0 hs)))
 
 pub keys-end : (shifts keys : List ℕ) (i c d : ℕ) {all : List ℕ} → length keys ≤ i → length shifts ≤ i

@@ -3,13 +3,6 @@ ghost use mathlib.Core.Path.{_≡_};
 ghost use Rattle.cipher.specs.Bits.{permuted};
 ghost use Rattle.cipher.specs.Private.{Selection};
 
-// A byte as a word.
-pub(crate) fn widen(x: u8) -> u64
-    ensures { λ r. ⌜ r ≡ x ⌝ }
-{
-    x as u64
-}
-
 // The bits of x that the table names, in the table's order.
 pub(crate) fn permute(width: u64, table: &[u8], x: u64) -> u64
     requires { ⌜ Selection width (now table) ⌝ }
@@ -18,7 +11,7 @@ pub(crate) fn permute(width: u64, table: &[u8], x: u64) -> u64
     let mut r: u64 = 0;
     let mut k: usize = 0;
     while k < table.len() {
-        let i = widen(table[k]);
+        let i = table[k] as u64;
         r = r * 2 + (x >> (width - i)) % 2;
         k += 1;
     }

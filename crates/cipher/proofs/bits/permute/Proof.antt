@@ -1,78 +1,49 @@
 -- `cipher::bits::permute` meets its contract.
--- The loop's invariant: the bits that are still to come, put behind those that are there, are the whole.
-use mathlib.Core.Path.{_≡_, refl, _∙_}
-use Prim.Native.Nat.{_≤_, _<_, _-_, _^_}
-use native.Mathlib.Nat.{mod-lt}
+-- The loop's invariant: r is the bits that the table's first k entries name.
+use mathlib.Core.Path.{_≡_, sym, ap, _∙_}
+use Prim.Native.Nat.{ℕ, _≤_, _<_, _+_, _-_, _*_, _^_}
 use native.Mathlib.Omega.{arith}
 use borrow.Author.Needs.{needs}
 use denote.Ref.{now}
-use lib.Dec.{lit<}
-use lib.ListN.{length, drop}
-use Rattle.cipher.specs.Bits as bits
-use Rattle.cipher.proofs.Permutation.{append-step, append-end, one-more, room}
+use lib.ListN.{length, getD, take}
+use lib.Seq.{take-all}
+use Rattle.cipher.specs.Bits.{bit, permuted}
+use Rattle.cipher.proofs.Permutation.{one-more, room}
 use Rattle.cipher.proofs.Range.{entry-range}
 use Rattle.cipher.proofs.bits.permute.Statement.{statement}
 use Rattle.cipher.proofs.bits.permute.Tie as tie
 
 abbrev Inv-loop : tie.InvT-loop
-Inv-loop width table x r₀ k₀ r k =
-    (k ≤ length table) × ((r < 2 ^ k) × (bits.append width (drop k table) x r ≡ bits.permuted width table x))
+Inv-loop width table x r₀ k₀ r k = (k ≤ length table) × (r ≡ permuted width (take k table) x)
 
 abbrev μ-loop : tie.MeasureT-loop
 μ-loop width table x r₀ k₀ r k = length table - k
 
 loop-holds : tie.Need-loop-holds Inv-loop μ-loop
-unfolding bits.permuted
-loop-holds c = (omega arith, (omega arith, refl))
+unfolding permuted
+loop-holds c = search needs
 
-shared-slice-read-widen : tie.Need-shared-slice-read-widen Inv-loop μ-loop
-shared-slice-read-widen c = omega arith
-
-widen-requires : tie.Need-widen-requires Inv-loop μ-loop
-widen-requires c κs = search needs
-
--- the entry just read names a bit
-entry : (c : tie.After-widen Inv-loop μ-loop)
-    → (1 ≤ c .widen .result) × (c .widen .result ≤ c .before .before .before .before .before .args .width)
-entry c =
-    let s = c .before .before .before .before .before in
-    let l = c .before .before .before .loop in
-    rw (c .widen .ensures) (entry-range 1 (s .args .width) (now (s .args .table)) (s .pre .entries) (l .k) (omega arith))
-
-mul-r : tie.Need-mul-r Inv-loop μ-loop
-mul-r c = omega (arith, room (c .before .before .before .loop .inv .1 .0) (omega arith))
-
-sub-r : tie.Need-sub-r Inv-loop μ-loop
-sub-r c = omega (arith, entry c)
-
-shr-r : tie.Need-shr-r Inv-loop μ-loop
-shr-r c = omega (arith, entry c)
-
-add-r : tie.Need-add-r Inv-loop μ-loop
-add-r c = omega (arith, room (c .before .before .before .loop .inv .1 .0) (omega arith))
-
-add-k : tie.Need-add-k Inv-loop μ-loop
-add-k c = omega arith
-
-loop-less : tie.Need-loop-less Inv-loop μ-loop
-loop-less c = omega arith
+-- the entry names a bit, and there is room for one more
+turn : (c : tie.After-shared-slice-known Inv-loop μ-loop)
+    → let a = c .before .before .before .args in
+    let l = c .before .before .loop in
+    ((1 ≤ getD (now (a .table)) (l .k) 0) × (getD (now (a .table)) (l .k) 0 ≤ a .width)) × (permuted (a .width) (take (l .k) (now (a .table))) (a .x) < 2 ^ 63)
+turn c =
+    let s = c .before .before .before in
+    let l = c .before .before .loop in
+    (entry-range 1 (s .args .width) (now (s .args .table)) (s .pre .entries) (l .k) (omega arith), room (s .args .width) (s .args .x) (now (s .args .table)) (l .k) (omega arith))
 
 loop-again : tie.Need-loop-again Inv-loop μ-loop
+unfolding bit
 loop-again c =
-    let l = c .before .before .before .loop in
-    let a = c .before .before .before .before .before .args in (
-      omega arith,
-      (
-        one-more (l .k) (l .r) _ (l .inv .1 .0) (mod-lt _ (lit< tt)),
-        append-step (a .width) (now (a .table)) (a .x) (l .r) (l .k) (c .widen .result) (omega arith) (c .widen .ensures) ∙ l .inv .1 .1,
-      ),
-    )
+    let a = c .before .before .before .args in
+    let l = c .before .before .loop in
+    (omega arith, rw (l .inv .1) (one-more (a .width) (a .x) (now (a .table)) (l .k) (omega arith)))
 
 returns : tie.Need-returns Inv-loop μ-loop
 returns c =
     let l = c .before .loop in
-    let a = c .before .before .before .args in
-    append-end (a .width) (now (a .table)) (a .x) (l .r) (l .k) (omega arith) (l .inv .1 .1)
+    rw (take-all (l .k) (now (c .before .before .args .table)) (omega arith)) at (l .inv .1)
 
 pub permute-spec : {M : Type 1} → statement M
 permute-spec =
@@ -81,13 +52,13 @@ permute-spec =
     Inv-loop
     μ-loop
     loop-holds
-    shared-slice-read-widen
-    widen-requires
-    mul-r
-    sub-r
-    shr-r
-    add-r
-    add-k
-    loop-less
+    (search needs)
+    (λ c. omega (arith, turn c))
+    (λ c. omega (arith, turn c))
+    (λ c. omega (arith, turn c))
+    (λ c. omega (arith, turn c))
+    (λ c. omega (arith, turn c))
+    (search needs)
+    (search needs)
     loop-again
     returns)

@@ -4,15 +4,6 @@ use Rattle.cipher.proofs.RoundKeys.{rotation-fits, rotation}
 use Rattle.cipher.proofs.key_schedule.rotate_left.Statement.{statement}
 use Rattle.cipher.proofs.key_schedule.rotate_left.Tie as tie
 
-shl-result : tie.Need-shl-result
-shl-result c = search needs
-
-sub-result : tie.Need-sub-result
-sub-result c = search needs
-
-shr-result : tie.Need-shr-result
-shr-result c = search needs
-
 add-result : tie.Need-add-result
 add-result c = record { fits = rotation-fits (c .pre .0) (c .pre .1) }
 
@@ -20,4 +11,4 @@ returns : tie.Need-returns
 returns c = (rotation (c .pre .0) (c .pre .1), search needs)
 
 pub rotate-left-spec : {M : Type 1} → statement M
-rotate-left-spec = tie.close (tie.spec shl-result sub-result shr-result add-result returns)
+rotate-left-spec = tie.close (tie.spec (search needs) (search needs) (search needs) add-result returns)

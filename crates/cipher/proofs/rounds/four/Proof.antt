@@ -1,0 +1,30 @@
+-- `cipher::rounds::four` meets its contract.
+use mathlib.Core.Path.{refl}
+use Prim.Native.Nat.{_+_, _*_, _/_, _%_, _^_, _≤_}
+use native.Mathlib.Omega.{arith}
+use borrow.Author.Needs.{needs}
+use denote.Ref.{now}
+use Rattle.cipher.specs.Rounds.{sBox, row, column}
+use Rattle.cipher.proofs.Range.{entry-range}
+use Rattle.cipher.proofs.rounds.four.Statement.{statement}
+use Rattle.cipher.proofs.rounds.four.Tie as tie
+
+-- the entry that is read
+four-bits : (c : tie.After-result) → sBox (now (c .before .args .table)) (c .before .args .x / 2 ^ c .before .args .right % 64) ≤ 15
+unfolding sBox row column
+four-bits c =
+    let six = c .before .args .x / 2 ^ c .before .args .right % 64 in
+    entry-range 0 15 (now (c .before .args .table)) (c .before .pre .1 .entries) (row six * 16 + column six) (omega arith) .1
+
+cast-result : tie.Need-cast-result
+unfolding sBox row column
+cast-result c = omega (arith, four-bits c)
+
+returns : tie.Need-returns
+unfolding sBox row column
+returns c = (refl, omega (arith, four-bits c))
+
+pub four-spec : {M : Type 1} → statement M
+four-spec =
+    tie.close
+    (tie.spec (search needs) (search needs) (search needs) (search needs) (search needs) (search needs) cast-result returns)
