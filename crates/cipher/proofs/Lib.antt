@@ -6,5 +6,4 @@ mod Inverse
 mod Parity
 mod Permutation
 mod Range
-mod RoundKeys
 mod Vectors

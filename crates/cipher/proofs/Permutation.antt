@@ -19,7 +19,7 @@ module _ (w x : ℕ) where
 
   -- as many bits as the table has entries
   pub permuted-lt : (table : List ℕ) → permuted w table x < 2 ^ length table
-  unfolding permuted bit
+  unfolding permuted
   permuted-lt [] = lit< tt
   permuted-lt (i ∷ table) = rw (permuted-cons i table, pow-succ' 2 (length table)) (digits-lt (mod-lt _ (lit< tt)) (permuted-lt table))
 

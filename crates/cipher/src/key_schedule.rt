@@ -63,7 +63,7 @@ pub(crate) fn reversed(keys: [u64; 16]) -> [u64; 16]
     let mut back = [0u64; 16];
     let mut i: usize = 0;
     while i < 16 {
-        back[i] = keys[15 - i];
+        back[15 - i] = keys[i];
         i += 1;
     }
     back
