@@ -69,8 +69,8 @@ permuted-bits w x y (i ∷ table) e =
     let l = mod-lt y (pow-pos n) in
     let r = permuted-lt w x table in
     ap₂ _∷_
-    (sym (digits-div (y / 2 ^ n % 2) l) ∙ ap (λ (z : ℕ). z / 2 ^ n) s ∙ digits-div (bit w x i) r)
-    (permuted-bits w x y table (sym (digits-mod (y / 2 ^ n % 2) l) ∙ ap (λ (z : ℕ). z % 2 ^ n) s ∙ digits-mod (bit w x i) r))
+    (cc (digits-div (y / 2 ^ n % 2) l, digits-div (bit w x i) r))
+    (permuted-bits w x y table (cc (digits-mod (y / 2 ^ n % 2) l, digits-mod (bit w x i) r)))
 
 -- ---- tables that undo each other
 
@@ -78,12 +78,14 @@ permuted-bits w x y (i ∷ table) e =
 unfoldable pub named : List ℕ → List ℕ → List ℕ
 named all table = map (λ (i : ℕ). getD all (pred i) 0) table
 
--- `then` names each of 64 bits, at the place from which `table` took it
-pub undoes : (table then : List ℕ) (x : ℕ) → length table ≡ 64 → ((y : ℕ) → map (bit 64 y) then ≡ named (bits y 64) then)
-    → named (map (bit 64 x) table) then ≡ bits x 64 → x < 2 ^ 64 → permuted 64 then (permuted 64 table x) ≡ x
+-- `then` names each bit, at the place from which `table` took it
+pub undoes : (table then : List ℕ) (x : ℕ) → let n = length table in
+    ((y : ℕ) → map (bit n y) then ≡ named (bits y n) then) → named (map (bit n x) table) then ≡ bits x n
+    → x < 2 ^ n → permuted n then (permuted n table x) ≡ x
 unfolding permuted
-undoes table then x l e f h =
-    let y = permuted 64 table x in
-    let hy = rw l at (permuted-lt 64 x table) in
-    let b = rw l at (permuted-bits 64 x y table (mod-eq-of-lt (permuted-lt 64 x table))) in
-    ap (numberIn 2) (e y ∙ ap (λ (all : List ℕ). named all then) b ∙ f) ∙ number-bits x 64 ∙ mod-eq-of-lt h
+undoes table then x e f h =
+    let n = length table in
+    let y = permuted n table x in
+    ap (numberIn 2) (e y ∙ ap (λ (all : List ℕ). named all then) (permuted-bits n x y table (mod-eq-of-lt (permuted-lt n x table))) ∙ f)
+    ∙ number-bits x n
+    ∙ mod-eq-of-lt h
