@@ -51,10 +51,10 @@ permute-spec =
     μ-loop
     loop-holds
     (λ c. omega (arith, room-left (c .before) (omega arith)))
-    (search needs)
+    (λ c. search needs)
     bit-requires
     (λ c. omega (arith, room-left (c .before .before .before) (omega arith)))
-    (search needs)
-    (search needs)
+    (λ c. search needs)
+    (λ c. search needs)
     loop-again
     returns)

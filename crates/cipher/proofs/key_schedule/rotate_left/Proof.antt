@@ -20,4 +20,4 @@ unfolding rotatedLeft
 returns c = omega (arith, shifted c)
 
 pub rotate-left-spec : {M : Type 1} → statement M
-rotate-left-spec = tie.close (tie.spec (search needs) (search needs) (search needs) add-result returns)
+rotate-left-spec = tie.close (tie.spec (λ c. search needs) (λ c. search needs) (λ c. search needs) add-result returns)

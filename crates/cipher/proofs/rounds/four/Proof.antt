@@ -27,4 +27,4 @@ returns c = (refl, omega (arith, four-bits c))
 pub four-spec : {M : Type 1} → statement M
 four-spec =
     tie.close
-    (tie.spec (search needs) (search needs) (search needs) (search needs) (search needs) (search needs) cast-result returns)
+    (tie.spec (λ c. search needs) (λ c. search needs) (λ c. search needs) (λ c. search needs) (λ c. search needs) (λ c. search needs) cast-result returns)

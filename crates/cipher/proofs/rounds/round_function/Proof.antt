@@ -6,4 +6,4 @@ use Rattle.cipher.proofs.rounds.round_function.Tie as tie
 
 pub round-function-spec : {M : Type 1} → statement M
 unfolding roundFunction
-round-function-spec = tie.close (tie.spec (search needs) (search needs) (search needs) (λ c. cc))
+round-function-spec = tie.close (tie.spec (λ c. search needs) (λ c. search needs) (λ c. search needs) (λ c. rw (c .round-permutation .ensures, c .before .substitute .ensures, c .before .before .expand .ensures)))
