@@ -11,7 +11,7 @@ use crate::tables::S6;
 use crate::tables::S7;
 use crate::tables::S8;
 ghost use mathlib.Core.Path.{_≡_};
-ghost use Prim.Native.Nat.{_/_, _%_, _^_, _<_};
+ghost use Prim.Native.Nat.{_+_, _*_, _/_, _%_, _^_, _<_};
 ghost use Rattle.cipher.specs.Bits.{permuted};
 ghost use Rattle.cipher.specs.Private.{SBox};
 ghost use Rattle.cipher.specs.Rounds;
@@ -24,29 +24,30 @@ fn expand(x: u64) -> u64
     permute(32, &EXPANSION, x)
 }
 
-// The four bits that an S-box gives for six bits of x, which have `right` bits on their right.
-fn four(table: &[u8; 64], x: u64, right: u64) -> u64
-    requires { ⌜ (right < 64) × SBox (now table) ⌝ }
-    ensures { λ r. ⌜ (r ≡ Rounds.sBox (now (table .entry)) (x / 2 ^ right % 64)) × (r < 16) ⌝ }
+// The bits of `before`, and after them the four that an S-box gives for six bits of x, which have `right` bits on their
+// right.
+fn substitute_six(before: u64, table: &[u8; 64], x: u64, right: u64) -> u64
+    requires { ⌜ (before < 2 ^ 28) × (right < 64) × SBox (now table) ⌝ }
+    ensures { λ r. ⌜ (r ≡ before * 16 + Rounds.sBox (now (table .entry)) (x / 2 ^ right % 64)) × (r < before * 16 + 16) ⌝ }
 {
     let six = (x >> right) % 64;
     let row = six / 32 * 2 + six % 2;
     let column = six / 2 % 16;
-    table[(row * 16 + column) as usize] as u64
+    before * 16 + table[(row * 16 + column) as usize] as u64
 }
 
 // The eight S-boxes: 48 bits to 32.
 fn substitute(x: u64) -> u64
     ensures { λ r. ⌜ r ≡ Rounds.substituted x ⌝ }
 {
-    four(&S1, x, 42) * 0x1000_0000
-        + four(&S2, x, 36) * 0x100_0000
-        + four(&S3, x, 30) * 0x10_0000
-        + four(&S4, x, 24) * 0x1_0000
-        + four(&S5, x, 18) * 0x1000
-        + four(&S6, x, 12) * 0x100
-        + four(&S7, x, 6) * 0x10
-        + four(&S8, x, 0)
+    let y1 = substitute_six(0, &S1, x, 42);
+    let y2 = substitute_six(y1, &S2, x, 36);
+    let y3 = substitute_six(y2, &S3, x, 30);
+    let y4 = substitute_six(y3, &S4, x, 24);
+    let y5 = substitute_six(y4, &S5, x, 18);
+    let y6 = substitute_six(y5, &S6, x, 12);
+    let y7 = substitute_six(y6, &S7, x, 6);
+    substitute_six(y7, &S8, x, 0)
 }
 
 // The permutation P.
