@@ -47,14 +47,6 @@ pub permute-spec : {M : Type 1} → statement M
 permute-spec =
     tie.close
     (tie.spec
-    Inv-loop
-    μ-loop
-    loop-holds
-    (λ c. omega (arith, room-left (c .before) (omega arith)))
-    (λ c. search needs)
-    bit-requires
-    (λ c. omega (arith, room-left (c .before .before .before) (omega arith)))
-    (λ c. search needs)
-    (λ c. search needs)
-    loop-again
-    returns)
+    Inv-loop μ-loop loop-holds (λ c. omega (arith, room-left (c .before) (omega arith)))
+    (λ c. search needs) bit-requires (λ c. omega (arith, room-left (c .before .before .before) (omega arith)))
+    (λ c. search needs) (λ c. search needs) loop-again returns)

@@ -56,20 +56,7 @@ pub round-keys-spec : {M : Type 1} → statement M
 round-keys-spec =
     tie.close
     (tie.spec
-    Inv-loop
-    μ-loop
-    (λ c. search needs)
-    loop-holds
-    (λ c. search needs)
-    (λ c. omega (arith, shift c))
-    (λ c κs. omega (arith, shift c))
-    (λ c κs. omega (arith, shift (c .before)))
-    (λ c. search needs)
-    (λ c. search needs)
-    (λ c. search needs)
-    (λ c. search needs)
-    (λ c. search needs)
-    (λ c. search needs)
-    (λ c. search needs)
-    loop-again
-    returns)
+    Inv-loop μ-loop (λ c. search needs) loop-holds (λ c. search needs)
+    (λ c. omega (arith, shift c)) (λ c κs. omega (arith, shift c)) (λ c κs. omega (arith, shift (c .before)))
+    (λ c. search needs) (λ c. search needs) (λ c. search needs) (λ c. search needs) (λ c. search needs) (λ c. search needs) (λ c. search needs)
+    loop-again returns)
