@@ -4,6 +4,9 @@ use Rattle.cipher.specs.Rounds.{roundFunction}
 use Rattle.cipher.proofs.rounds.round_function.Statement.{statement}
 use Rattle.cipher.proofs.rounds.round_function.Tie as tie
 
-pub round-function-spec : {M : Type 1} → statement M
+returns : tie.Need-returns
 unfolding roundFunction
-round-function-spec = tie.close (tie.spec (λ c. search needs) (λ c. search needs) (λ c. search needs) (λ c. rw (c .round-permutation .ensures, c .before .substitute .ensures, c .before .before .expand .ensures)))
+returns c = simp (c .before .substitute .ensures, c .before .before .expand .ensures) at (c .round-permutation .ensures)
+
+pub round-function-spec : {M : Type 1} → statement M
+round-function-spec = tie.close (tie.spec (λ c. search needs) (λ c. search needs) (λ c. search needs) returns)
