@@ -19,10 +19,6 @@ Inv-loop width table x r₀ k₀ r k = (k ≤ length table) × (r ≡ permuted w
 abbrev μ-loop : tie.MeasureT-loop
 μ-loop width table x r₀ k₀ r k = length table - k
 
-loop-holds : tie.Need-loop-holds Inv-loop μ-loop
-unfolding permuted
-loop-holds c = search needs
-
 -- there is room for one more bit
 room-left : (c : tie.At-loop Inv-loop μ-loop) → c .loop .k < 64 → c .loop .r < 2 ^ 63
 room-left c h = rw (c .loop .inv .1) (room _ _ _ (c .loop .k) h)
@@ -44,9 +40,10 @@ returns c =
     rw (take-all (l .k) (now (c .before .before .before .args .table)) (omega arith)) at (l .inv .1)
 
 pub permute-spec : {M : Type 1} → statement M
+unfolding permuted
 permute-spec =
     tie.close
     (tie.spec
-    Inv-loop μ-loop loop-holds (λ c. omega (arith, room-left (c .before) (omega arith)))
+    Inv-loop μ-loop (λ c. search needs) (λ c. omega (arith, room-left (c .before) (omega arith)))
     (λ c. search needs) bit-requires (λ c. omega (arith, room-left (c .before .before .before) (omega arith)))
     (λ c. search needs) (λ c. search needs) loop-again returns)
