@@ -74,7 +74,7 @@ permuted-bits w x y (i ∷ table) e =
 
 -- ---- tables that undo each other
 
--- the bits that the table names, from the left
+-- of the bits `all`, numbered from 1, those that the table names
 unfoldable pub named : List ℕ → List ℕ → List ℕ
 named all table = map (λ (i : ℕ). getD all (pred i) 0) table
 
