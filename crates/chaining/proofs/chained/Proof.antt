@@ -17,39 +17,9 @@ Inv-loop key s keys blocks h₀ i₀ h i = (i ≤ blocks) × (h ≡ chainedTo ke
 abbrev μ-loop : tie.MeasureT-loop
 μ-loop key s keys blocks h₀ i₀ h i = blocks - i
 
-schedule-requires : tie.Need-schedule-requires Inv-loop μ-loop
-schedule-requires c κs = search needs
-
-add-blocks : tie.Need-add-blocks Inv-loop μ-loop
-add-blocks c = search needs
-
 loop-holds : tie.Need-loop-holds Inv-loop μ-loop
 unfolding chainedTo
 loop-holds c = (search needs, refl)
-
-mul-at : tie.Need-mul-at Inv-loop μ-loop
-mul-at c = search needs
-
-sub-word-of : tie.Need-sub-word-of Inv-loop μ-loop
-sub-word-of c = search needs
-
-part-word-of-start : tie.Need-part-word-of-start Inv-loop μ-loop
-part-word-of-start c = search needs
-
-part-word-of-end : tie.Need-part-word-of-end Inv-loop μ-loop
-part-word-of-end c = search needs
-
-word-of-requires : tie.Need-word-of-requires Inv-loop μ-loop
-word-of-requires c κs = search needs
-
-encrypt-with-requires : tie.Need-encrypt-with-requires Inv-loop μ-loop
-encrypt-with-requires c κs = search needs
-
-add-i : tie.Need-add-i Inv-loop μ-loop
-add-i c = search needs
-
-loop-less : tie.Need-loop-less Inv-loop μ-loop
-loop-less c = search needs
 
 loop-again : tie.Need-loop-again Inv-loop μ-loop
 unfolding chainedTo
@@ -66,19 +36,6 @@ returns c = let e : c .before .loop .i ≡ (length (c .before .before .before .b
 pub chained-spec : {M : Type 1} → statement M
 chained-spec =
     tie.close
-    (tie.spec
-    Inv-loop
-    μ-loop
-    schedule-requires
-    add-blocks
-    loop-holds
-    mul-at
-    sub-word-of
-    part-word-of-start
-    part-word-of-end
-    word-of-requires
-    encrypt-with-requires
-    add-i
-    loop-less
-    loop-again
-    returns)
+    (tie.spec Inv-loop μ-loop (λ c κs. search needs) (λ c. search needs) loop-holds (λ c. search needs)
+    (λ c. search needs) (λ c. search needs) (λ c. search needs) (λ c κs. search needs) (λ c κs. search needs)
+    (λ c. search needs) (λ c. search needs) loop-again returns)

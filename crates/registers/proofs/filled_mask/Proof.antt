@@ -15,12 +15,9 @@ returns-2 : tie.Need-returns-2
 unfolding filledMask
 returns-2 c = rw (ne-eqb (c .before .before .args .c) 0 (c .before .if1 .left)) (omega arith)
 
-sub-result : tie.Need-sub-result
-sub-result c = search needs
-
 returns-3 : tie.Need-returns-3
 unfolding filledMask
 returns-3 c = rw (ne-eqb (c .before .before .args .c) 0 (c .before .if1 .left)) refl
 
 pub filled-mask-spec : {M : Type 1} → statement M
-filled-mask-spec = tie.close (tie.spec returns returns-2 sub-result returns-3)
+filled-mask-spec = tie.close (tie.spec returns returns-2 (λ c. search needs) returns-3)

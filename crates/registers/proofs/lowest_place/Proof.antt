@@ -8,8 +8,5 @@ use Rattle.registers.proofs.lowest_place.Tie as tie
 cast-result : tie.Need-cast-result
 cast-result c = omega (arith, trailing-le 32 (c .args .c))
 
-returns : tie.Need-returns
-returns c = search needs
-
 pub lowest-place-spec : {M : Type 1} → statement M
-lowest-place-spec = tie.close (tie.spec cast-result returns)
+lowest-place-spec = tie.close (tie.spec cast-result (λ c. search needs))

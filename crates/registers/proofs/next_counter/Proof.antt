@@ -25,9 +25,6 @@ returns : tie.Need-returns
 unfolding nextCounter
 returns c = rw (le-ltb (c .before .args .c) lastCounter (omega arith)) refl
 
-add-result : tie.Need-add-result
-add-result c = search needs
-
 returns-2 : tie.Need-returns-2
 unfolding nextCounter nextAfter
 returns-2 c = rw (lt-ltb (c .before .before .args .c) lastCounter (omega arith), lt-ltb (ones (c .before .before .args .c)) 10 (omega arith)) refl
@@ -48,4 +45,4 @@ returns-3 c =
     rw (lt-ltb x lastCounter (omega arith), le-ltb (ones x) 10 (omega arith)) (ap (λ (y : ℕ). x + y) (shifted x (some x (omega arith)) (omega arith)))
 
 pub next-counter-spec : {M : Type 1} → statement M
-next-counter-spec = tie.close (tie.spec returns add-result returns-2 shl-result add-result-2 returns-3)
+next-counter-spec = tie.close (tie.spec returns (λ c. search needs) returns-2 shl-result add-result-2 returns-3)

@@ -10,15 +10,9 @@ use Rattle.card.specs.Entries.{arpc}
 use Rattle.card.proofs.cryptograms.arpc.Statement.{statement}
 use Rattle.card.proofs.cryptograms.arpc.Tie as tie
 
-refused-block-requires : tie.Need-refused-block-requires
-refused-block-requires c κs = search needs
-
 returns : tie.Need-returns
 unfolding arpc
 returns c = refused-block (c .refused-block .ensures) (size, refl, simp (ne-eqb _ _ (c .before .if1 .taken)))
-
-refused-block-requires-2 : tie.Need-refused-block-requires-2
-refused-block-requires-2 c κs = search needs
 
 returns-2 : tie.Need-returns-2
 unfolding arpc
@@ -26,27 +20,12 @@ returns-2 c =
     refused-block (c .refused-block2 .ensures)
     (size, refl, simp (eq-eqb _ _ (c .before .before .if1 .left), ne-eqb _ _ (c .before .if2 .taken)))
 
-refused-block-requires-3 : tie.Need-refused-block-requires-3
-refused-block-requires-3 c κs = search needs
-
 returns-3 : tie.Need-returns-3
 unfolding arpc
 returns-3 c =
     let b = c .before .before in
     refused-block (c .refused-block3 .ensures)
     (size, refl, simp (eq-eqb _ _ (b .before .if1 .left), eq-eqb _ _ (b .if2 .left), ne-eqb _ _ (c .before .if3 .taken)))
-
-word-of-requires : tie.Need-word-of-requires
-word-of-requires c κs = search needs
-
-word-of-requires-2 : tie.Need-word-of-requires-2
-word-of-requires-2 c κs = search needs
-
-triple-encrypt-requires : tie.Need-triple-encrypt-requires
-triple-encrypt-requires c κs = search needs
-
-block-of-requires : tie.Need-block-of-requires
-block-of-requires c κs = search needs
 
 returns-4 : tie.Need-returns-4
 unfolding arpc arpcWord
@@ -66,15 +45,5 @@ returns-4 c =
 pub arpc-spec : {M : Type 1} → statement M
 arpc-spec =
     tie.close
-    (tie.spec
-    refused-block-requires
-    returns
-    refused-block-requires-2
-    returns-2
-    refused-block-requires-3
-    returns-3
-    word-of-requires
-    word-of-requires-2
-    triple-encrypt-requires
-    block-of-requires
-    returns-4)
+    (tie.spec (λ c κs. search needs) returns (λ c κs. search needs) returns-2 (λ c κs. search needs) returns-3
+    (λ c κs. search needs) (λ c κs. search needs) (λ c κs. search needs) (λ c κs. search needs) returns-4)

@@ -12,18 +12,9 @@ use Rattle.card.specs.Entries.{arqc}
 use Rattle.card.proofs.cryptograms.arqc.Statement.{statement}
 use Rattle.card.proofs.cryptograms.arqc.Tie as tie
 
-refused-block-requires : tie.Need-refused-block-requires
-refused-block-requires c κs = search needs
-
 returns : tie.Need-returns
 unfolding arqc
 returns c = refused-block (c .refused-block .ensures) (size, refl, simp (ne-eqb _ _ (c .before .if1 .taken)))
-
-sized-requires : tie.Need-sized-requires
-sized-requires c κs = search needs
-
-refused-block-requires-2 : tie.Need-refused-block-requires-2
-refused-block-requires-2 c κs = search needs
 
 returns-2 : tie.Need-returns-2
 unfolding arqc
@@ -39,9 +30,6 @@ few c = sym (c .before .sized .ensures) ∙ not-false _ (c .if2 .left)
 arqc-word-requires : tie.Need-arqc-word-requires
 arqc-word-requires c κs = between-true 1 255 _ (few c) .1
 
-block-of-requires : tie.Need-block-of-requires
-block-of-requires c κs = search needs
-
 returns-3 : tie.Need-returns-3
 unfolding arqc
 returns-3 c =
@@ -51,12 +39,5 @@ returns-3 c =
 pub arqc-spec : {M : Type 1} → statement M
 arqc-spec =
     tie.close
-    (tie.spec
-    refused-block-requires
-    returns
-    sized-requires
-    refused-block-requires-2
-    returns-2
-    arqc-word-requires
-    block-of-requires
-    returns-3)
+    (tie.spec (λ c κs. search needs) returns (λ c κs. search needs) (λ c κs. search needs) returns-2
+    arqc-word-requires (λ c κs. search needs) returns-3)

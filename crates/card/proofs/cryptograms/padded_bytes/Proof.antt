@@ -12,15 +12,6 @@ use Rattle.card.proofs.Paddings.{padded-stored}
 use Rattle.card.proofs.cryptograms.padded_bytes.Statement.{statement}
 use Rattle.card.proofs.cryptograms.padded_bytes.Tie as tie
 
-slice-aggregate-lend : tie.Need-slice-aggregate-lend
-slice-aggregate-lend c = search needs
-
-lend-requires : tie.Need-lend-requires
-lend-requires c κs = search needs
-
-array-write-bytes : tie.Need-array-write-bytes
-array-write-bytes c = search needs
-
 -- data lent to 256 zeros stand before what is left of them
 lent-zeros : (s : List ℕ) {v : List ℕ} {m k : ℕ} → length s ≤ 255 → Written (done s) (replicate 256 0) m k v → v ≡ s ++ replicate (256 - length s) 0
 lent-zeros s h w =
@@ -33,5 +24,4 @@ returns c =
     rw (lent-zeros (s .args .«data» .now) (s .pre) (c .before .lend .ensures)) (padded-stored (s .args .«data» .now) (s .pre))
 
 pub padded-bytes-spec : {M : Type 1} → statement M
-padded-bytes-spec =
-    tie.close (tie.spec slice-aggregate-lend lend-requires array-write-bytes returns)
+padded-bytes-spec = tie.close (tie.spec (λ c. search needs) (λ c κs. search needs) (λ c. search needs) returns)

@@ -14,12 +14,6 @@ use Rattle.card.specs.Entries.{derivationData}
 use Rattle.card.proofs.derivation.derivation_data.Statement.{statement}
 use Rattle.card.proofs.derivation.derivation_data.Tie as tie
 
-sized-requires : tie.Need-sized-requires
-sized-requires c κs = search needs
-
-refused-block-requires : tie.Need-refused-block-requires
-refused-block-requires c κs = search needs
-
 returns : tie.Need-returns
 unfolding derivationData
 returns c =
@@ -35,21 +29,12 @@ in-range c = le-leb (c .before .before .before .before .args .sequence) 99 (omeg
 digits : (c : tie.Else3) → all digit (c .before .before .before .before .before .before .args .card .now) ≡ true
 digits c = sym (c .before .all-digits .ensures) ∙ not-false _ (c .if3 .left)
 
-refused-block-requires-2 : tie.Need-refused-block-requires-2
-refused-block-requires-2 c κs = search needs
-
 returns-2 : tie.Need-returns-2
 unfolding derivationData
 returns-2 c =
     let e = c .before .before in
     let large = lt-leb (e .before .before .before .args .sequence) 99 (omega arith) in
     refused-block (c .refused-block2 .ensures) (size, refl, simp (card-sized e, large))
-
-all-digits-requires : tie.Need-all-digits-requires
-all-digits-requires c κs = search needs
-
-refused-block-requires-3 : tie.Need-refused-block-requires-3
-refused-block-requires-3 c κs = search needs
 
 returns-3 : tie.Need-returns-3
 unfolding derivationData
@@ -61,9 +46,6 @@ returns-3 c =
 derivation-word-requires : tie.Need-derivation-word-requires
 derivation-word-requires c κs = (digits c, omega arith)
 
-block-of-requires : tie.Need-block-of-requires
-block-of-requires c κs = search needs
-
 returns-4 : tie.Need-returns-4
 unfolding derivationData
 returns-4 c =
@@ -74,15 +56,5 @@ returns-4 c =
 pub derivation-data-spec : {M : Type 1} → statement M
 derivation-data-spec =
     tie.close
-    (tie.spec
-    sized-requires
-    refused-block-requires
-    returns
-    refused-block-requires-2
-    returns-2
-    all-digits-requires
-    refused-block-requires-3
-    returns-3
-    derivation-word-requires
-    block-of-requires
-    returns-4)
+    (tie.spec (λ c κs. search needs) (λ c κs. search needs) returns (λ c κs. search needs) returns-2
+    (λ c κs. search needs) (λ c κs. search needs) returns-3 derivation-word-requires (λ c κs. search needs) returns-4)

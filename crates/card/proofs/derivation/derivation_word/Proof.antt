@@ -11,21 +11,6 @@ use Rattle.card.proofs.Derivations.{derivation-value}
 use Rattle.card.proofs.derivation.derivation_word.Statement.{statement}
 use Rattle.card.proofs.derivation.derivation_word.Tie as tie
 
-cast-tens : tie.Need-cast-tens
-cast-tens c = search needs
-
-cast-units : tie.Need-cast-units
-cast-units c = search needs
-
-number-word-requires : tie.Need-number-word-requires
-number-word-requires c κs = search needs
-
-with-half-byte-requires : tie.Need-with-half-byte-requires
-with-half-byte-requires c κs = search needs
-
-with-half-byte-requires-2 : tie.Need-with-half-byte-requires-2
-with-half-byte-requires-2 c κs = search needs
-
 -- one half-byte after what is left of a number is what is left of the number with that half-byte
 shifted : (x h : ℕ) → h < 16 → (x % 2 ^ 64 * 16 + h % 16) % 2 ^ 64 ≡ (x * 16 + h) % 2 ^ 64
 shifted x h b = omega arith
@@ -43,10 +28,5 @@ returns c =
 pub derivation-word-spec : {M : Type 1} → statement M
 derivation-word-spec =
     tie.close
-    (tie.spec
-    cast-tens
-    cast-units
-    number-word-requires
-    with-half-byte-requires
-    with-half-byte-requires-2
-    returns)
+    (tie.spec (λ c. search needs) (λ c. search needs) (λ c κs. search needs) (λ c κs. search needs)
+    (λ c κs. search needs) returns)

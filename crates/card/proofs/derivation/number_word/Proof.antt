@@ -22,18 +22,6 @@ loop-holds : tie.Need-loop-holds Inv-loop μ-loop
 unfolding fromBase
 loop-holds c = (search needs, refl)
 
-shared-slice-read-with-half-byte : tie.Need-shared-slice-read-with-half-byte Inv-loop μ-loop
-shared-slice-read-with-half-byte c = search needs
-
-with-half-byte-requires : tie.Need-with-half-byte-requires Inv-loop μ-loop
-with-half-byte-requires c κs = search needs
-
-add-i : tie.Need-add-i Inv-loop μ-loop
-add-i c = search needs
-
-loop-less : tie.Need-loop-less Inv-loop μ-loop
-loop-less c = search needs
-
 loop-again : tie.Need-loop-again Inv-loop μ-loop
 unfolding fromBase
 loop-again c =
@@ -50,13 +38,5 @@ returns c =
 pub number-word-spec : {M : Type 1} → statement M
 number-word-spec =
     tie.close
-    (tie.spec
-    Inv-loop
-    μ-loop
-    loop-holds
-    shared-slice-read-with-half-byte
-    with-half-byte-requires
-    add-i
-    loop-less
-    loop-again
-    returns)
+    (tie.spec Inv-loop μ-loop loop-holds (λ c. search needs) (λ c κs. search needs) (λ c. search needs)
+    (λ c. search needs) loop-again returns)

@@ -10,30 +10,6 @@ use Rattle.lent.specs.Words.{toBase, wordBytes}
 use Rattle.card.proofs.keys.derived_key.Statement.{statement}
 use Rattle.card.proofs.keys.derived_key.Tie as tie
 
-triple-encrypt-requires : tie.Need-triple-encrypt-requires
-triple-encrypt-requires c κs = search needs
-
-slice-aggregate-lend-word : tie.Need-slice-aggregate-lend-word
-slice-aggregate-lend-word c = search needs
-
-lend-word-requires : tie.Need-lend-word-requires
-lend-word-requires c κs = search needs
-
-triple-encrypt-requires-2 : tie.Need-triple-encrypt-requires-2
-triple-encrypt-requires-2 c κs = search needs
-
-sub-lend-word : tie.Need-sub-lend-word
-sub-lend-word c = search needs
-
-part-value-start : tie.Need-part-value-start
-part-value-start c = search needs
-
-part-value-end : tie.Need-part-value-end
-part-value-end c = search needs
-
-lend-word-requires-2 : tie.Need-lend-word-requires-2
-lend-word-requires-2 c κs = search needs
-
 -- two words lent one after the other
 two-words : (a b : ℕ) {v w : List ℕ} {m n k l : ℕ}
     → Written (done (wordBytes a)) (replicate 16 0) m k v → Written (done (wordBytes b)) (midOf 8 8 v) n l w
@@ -54,13 +30,5 @@ returns c =
 pub derived-key-spec : {M : Type 1} → statement M
 derived-key-spec =
     tie.close
-    (tie.spec
-    triple-encrypt-requires
-    slice-aggregate-lend-word
-    lend-word-requires
-    triple-encrypt-requires-2
-    sub-lend-word
-    part-value-start
-    part-value-end
-    lend-word-requires-2
-    returns)
+    (tie.spec (λ c κs. search needs) (λ c. search needs) (λ c κs. search needs) (λ c κs. search needs)
+    (λ c. search needs) (λ c. search needs) (λ c. search needs) (λ c κs. search needs) returns)

@@ -13,18 +13,9 @@ use Rattle.card.specs.Turned.{turned}
 use Rattle.card.proofs.keys.session_key.Statement.{statement}
 use Rattle.card.proofs.keys.session_key.Tie as tie
 
-refused-double-block-requires : tie.Need-refused-double-block-requires
-refused-double-block-requires c κs = search needs
-
 returns : tie.Need-returns
 unfolding sessionKey
 returns c = refused-double-block (c .refused-double-block .ensures) (size, refl, simp (ne-eqb _ _ (c .before .if1 .taken)))
-
-cast-derived-key : tie.Need-cast-derived-key
-cast-derived-key c = search needs
-
-derived-key-requires : tie.Need-derived-key-requires
-derived-key-requires c κs = search needs
 
 -- the word of the counter's bytes is the counter
 counter-word : (counter : ℕ) → counter < 2 ^ 16 → word (counterBytes counter) ≡ counter
@@ -40,9 +31,4 @@ returns-2 c =
 pub session-key-spec : {M : Type 1} → statement M
 session-key-spec =
     tie.close
-    (tie.spec
-    refused-double-block-requires
-    returns
-    cast-derived-key
-    derived-key-requires
-    returns-2)
+    (tie.spec (λ c κs. search needs) returns (λ c. search needs) (λ c κs. search needs) returns-2)

@@ -6,20 +6,8 @@ use mathlib.Core.Bool.{false≢true}
 use Rattle.console.proofs.arguments.asks_for_help.Statement.{statement}
 use Rattle.console.proofs.arguments.asks_for_help.Tie as tie
 
-slice-aggregate-same : tie.Need-slice-aggregate-same
-slice-aggregate-same c = search needs
-
-same-requires : tie.Need-same-requires
-same-requires c κs = search needs
-
 returns : tie.Need-returns
 returns c = (λ e. inl (c .before .same .ensures .0 (c .if1 .taken)), λ h. refl)
-
-slice-aggregate-same-2 : tie.Need-slice-aggregate-same-2
-slice-aggregate-same-2 c = search needs
-
-same-requires-2 : tie.Need-same-requires-2
-same-requires-2 c κs = search needs
 
 returns-2 : tie.Need-returns-2
 returns-2 c =
@@ -31,10 +19,4 @@ returns-2 c =
 pub asks-for-help-spec : {M : Type 1} → statement M
 asks-for-help-spec =
     tie.close
-    (tie.spec
-    slice-aggregate-same
-    same-requires
-    returns
-    slice-aggregate-same-2
-    same-requires-2
-    returns-2)
+    (tie.spec (λ c. search needs) (λ c κs. search needs) returns (λ c. search needs) (λ c κs. search needs) returns-2)

@@ -10,32 +10,11 @@ use Rattle.czg.proofs.Prefixes.{starts-length}
 use Rattle.czg.proofs.inputs.put_input.Statement.{statement}
 use Rattle.czg.proofs.inputs.put_input.Tie as tie
 
-slice-aggregate-is : tie.Need-slice-aggregate-is
-slice-aggregate-is c = search needs
-
-is-requires : tie.Need-is-requires
-is-requires c κs = search needs
-
-slice-aggregate-lend : tie.Need-slice-aggregate-lend
-slice-aggregate-lend c = search needs
-
-lend-requires : tie.Need-lend-requires
-lend-requires c κs = search needs
-
-same-length : tie.Need-same-length
-same-length c = search needs
-
 returns : tie.Need-returns
 unfolding inputBytes
 returns c =
     let i = c .before .before .before .before .before .before in
     simp (sym (i .is .ensures) ∙ c .before .before .before .before .before .if1 .taken) (c .before .before .lend .ensures)
-
-text-bytes-requires : tie.Need-text-bytes-requires
-text-bytes-requires c κs = search needs
-
-same-length-2 : tie.Need-same-length-2
-same-length-2 c = search needs
 
 returns-2 : tie.Need-returns-2
 unfolding inputBytes
@@ -43,12 +22,6 @@ returns-2 c =
     let i = c .before .before .before .before .before .before in
     let k = i .before .before .before .before in
     simp (sym (i .is .ensures) ∙ c .before .before .before .before .before .if1 .left, not-true (k .args .characters) (c .before .before .before .before .if2 .taken)) (c .before .before .text-bytes .ensures)
-
-slice-aggregate-starts : tie.Need-slice-aggregate-starts
-slice-aggregate-starts c = search needs
-
-starts-requires : tie.Need-starts-requires
-starts-requires c κs = search needs
 
 -- what starts with `hex:` has four characters
 four : (c : tie.Then3) → 4 ≤ length (c .before .before .before .before .before .before .before .before .before .args .part .now)
@@ -62,15 +35,6 @@ sub-text-bytes c = four c
 part-text-bytes-start : tie.Need-part-text-bytes-start
 part-text-bytes-start c = four c
 
-part-text-bytes-end : tie.Need-part-text-bytes-end
-part-text-bytes-end c = search needs
-
-text-bytes-requires-2 : tie.Need-text-bytes-requires-2
-text-bytes-requires-2 c κs = search needs
-
-same-length-3 : tie.Need-same-length-3
-same-length-3 c = search needs
-
 returns-3 : tie.Need-returns-3
 unfolding inputBytes
 returns-3 c =
@@ -79,12 +43,6 @@ returns-3 c =
     let k = i .before .before .before .before in
     simp (sym (i .is .ensures) ∙ s .before .before .before .if1 .left, not-false (k .args .characters) (s .before .before .if2 .left), sym (s .starts .ensures) ∙ c .before .before .before .before .before .if3 .taken)
     (rw part-rest at (c .before .before .text-bytes2 .ensures))
-
-lend-requires-2 : tie.Need-lend-requires-2
-lend-requires-2 c κs = search needs
-
-same-length-4 : tie.Need-same-length-4
-same-length-4 c = search needs
 
 returns-4 : tie.Need-returns-4
 unfolding inputBytes
@@ -98,24 +56,7 @@ returns-4 c =
 pub put-input-spec : {M : Type 1} → statement M
 put-input-spec =
     tie.close
-    (tie.spec
-    slice-aggregate-is
-    is-requires
-    slice-aggregate-lend
-    lend-requires
-    same-length
-    returns
-    text-bytes-requires
-    same-length-2
-    returns-2
-    slice-aggregate-starts
-    starts-requires
-    sub-text-bytes
-    part-text-bytes-start
-    part-text-bytes-end
-    text-bytes-requires-2
-    same-length-3
-    returns-3
-    lend-requires-2
-    same-length-4
-    returns-4)
+    (tie.spec (λ c. search needs) (λ c κs. search needs) (λ c. search needs) (λ c κs. search needs)
+    (λ c. search needs) returns (λ c κs. search needs) (λ c. search needs) returns-2 (λ c. search needs)
+    (λ c κs. search needs) sub-text-bytes part-text-bytes-start (λ c. search needs) (λ c κs. search needs)
+    (λ c. search needs) returns-3 (λ c κs. search needs) (λ c. search needs) returns-4)

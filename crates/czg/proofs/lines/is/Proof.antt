@@ -9,12 +9,9 @@ returns : tie.Need-returns
 unfolding same
 returns c = simp (ne-eqb _ _ (c .if1 .taken))
 
-starts-requires : tie.Need-starts-requires
-starts-requires c κs = search needs
-
 returns-2 : tie.Need-returns-2
 unfolding same
 returns-2 c = simp (eq-eqb _ _ (c .before .if1 .left)) (c .starts .ensures)
 
 pub is-spec : {M : Type 1} → statement M
-is-spec = tie.close (tie.spec returns starts-requires returns-2)
+is-spec = tie.close (tie.spec returns (λ c κs. search needs) returns-2)

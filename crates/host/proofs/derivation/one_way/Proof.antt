@@ -4,12 +4,9 @@ use Rattle.host.specs.Derivation.{oneWay}
 use Rattle.host.proofs.derivation.one_way.Statement.{statement}
 use Rattle.host.proofs.derivation.one_way.Tie as tie
 
-encrypt-requires : tie.Need-encrypt-requires
-encrypt-requires c κs = search needs
-
 returns : tie.Need-returns
 unfolding oneWay
 returns c = rw (c .encrypt .ensures)
 
 pub one-way-spec : {M : Type 1} → statement M
-one-way-spec = tie.close (tie.spec encrypt-requires returns)
+one-way-spec = tie.close (tie.spec (λ c κs. search needs) returns)

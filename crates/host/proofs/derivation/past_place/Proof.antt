@@ -14,20 +14,8 @@ use Rattle.host.proofs.derivation.past_place.Tie as tie
 cut : (x b : ℕ) → x < 2 ^ 21 → (x / 2 ^ b * 2 ^ b % 2 ^ 32 ≡ x / 2 ^ b * 2 ^ b) × (x / 2 ^ b * 2 ^ b < 2 ^ 21)
 cut x b h = let l = div-mul-le-self x (2 ^ b) in (mod-eq-of-lt (omega arith), omega arith)
 
-shr-bits : tie.Need-shr-bits
-shr-bits c = search needs
-
-shl-wide : tie.Need-shl-wide
-shl-wide c = search needs
-
-wide-requires : tie.Need-wide-requires
-wide-requires c κs = search needs
-
 add-one-way : tie.Need-add-one-way
 add-one-way c = let a = c .before .before .args in omega (arith, cut (a .counter) (a .b) (omega arith), c .wide .ensures)
-
-one-way-requires : tie.Need-one-way-requires
-one-way-requires c κs = search needs
 
 returns : tie.Need-returns
 returns c =
@@ -41,4 +29,5 @@ returns-2 c = rw (ne-eqb (bit (c .before .args .counter) (c .before .args .b)) 1
 pub past-place-spec : {M : Type 1} → statement M
 past-place-spec =
     tie.close
-    (tie.spec shr-bits shl-wide wide-requires add-one-way one-way-requires returns returns-2)
+    (tie.spec (λ c. search needs) (λ c. search needs) (λ c κs. search needs) add-one-way (λ c κs. search needs)
+    returns returns-2)

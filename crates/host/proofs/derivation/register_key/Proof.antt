@@ -39,15 +39,6 @@ abbrev μ-loop : tie.MeasureT-loop
 loop-holds : tie.Need-loop-holds Inv-loop μ-loop
 loop-holds c = (search needs, refl)
 
-sub-b : tie.Need-sub-b Inv-loop μ-loop
-sub-b c = search needs
-
-past-place-requires : tie.Need-past-place-requires Inv-loop μ-loop
-past-place-requires c κs = search needs
-
-loop-less : tie.Need-loop-less Inv-loop μ-loop
-loop-less c = search needs
-
 loop-again : tie.Need-loop-again Inv-loop μ-loop
 loop-again c =
     let a = c .before .before .before .args in
@@ -61,4 +52,5 @@ returns c = last _ _ _ _ (c .before .loop .b) (omega arith) (c .before .loop .in
 pub register-key-spec : {M : Type 1} → statement M
 register-key-spec =
     tie.close
-    (tie.spec Inv-loop μ-loop loop-holds sub-b past-place-requires loop-less loop-again returns)
+    (tie.spec Inv-loop μ-loop loop-holds (λ c. search needs) (λ c κs. search needs) (λ c. search needs) loop-again
+    returns)

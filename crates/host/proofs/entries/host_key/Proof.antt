@@ -17,13 +17,6 @@ use Rattle.registers.specs.Counters.{Permitted, permitted?}
 use Rattle.host.proofs.entries.host_key.Statement.{statement}
 use Rattle.host.proofs.entries.host_key.Tie as tie
 
-
-initial-key-requires : tie.Need-initial-key-requires
-initial-key-requires c κs = search needs
-
-refused-block-requires : tie.Need-refused-block-requires
-refused-block-requires c κs = search needs
-
 -- the initial key that was answered
 first : (c : tie.Else1) → let i = c .before .before in let a = i .before .before .before .args in
     initialKey (a .derivation .now) (a .serial .now) ≡ done (i .initial-key .result .value)
@@ -44,15 +37,6 @@ returns c =
     let k = answered-refused 8 (initialKey (a .derivation .now) (a .serial .now)) (i .initial-key .ensures) (c .before .if1 .taken) in
     refused-block (c .refused-block .ensures) (k .0, k .1, simp (k .2))
 
-counter-of-requires : tie.Need-counter-of-requires
-counter-of-requires c κs = search needs
-
-permitted-requires : tie.Need-permitted-requires
-permitted-requires c κs = search needs
-
-refused-block-requires-2 : tie.Need-refused-block-requires-2
-refused-block-requires-2 c κs = search needs
-
 returns-2 : tie.Need-returns-2
 unfolding hostKey
 returns-2 c =
@@ -62,25 +46,10 @@ returns-2 c =
     refused-block (c .refused-block2 .ensures)
     (badCounter, refl, rw (first (m .before), ← m .counter-of .ensures, if-neg (permitted? n) bad true false))
 
-slice-aggregate-word-of : tie.Need-slice-aggregate-word-of
-slice-aggregate-word-of c = search needs
-
-word-of-requires : tie.Need-word-of-requires
-word-of-requires c κs = search needs
-
-cleared-tail-requires : tie.Need-cleared-tail-requires
-cleared-tail-requires c κs = search needs
-
 register-key-requires : tie.Need-register-key-requires
 register-key-requires c κs =
     let m = c .before .before .before .before .before .before in
     (counts (c .before .before .before .before) .fits, omega (arith, tail-clear (m .before .before .before .before .before .before .args .serial .now), c .cleared-tail .ensures))
-
-given-out-requires : tie.Need-given-out-requires
-given-out-requires c κs = search needs
-
-block-of-requires : tie.Need-block-of-requires
-block-of-requires c κs = search needs
 
 returns-3 : tie.Need-returns-3
 unfolding hostKey hostKeyOf
@@ -106,18 +75,6 @@ returns-3 c =
 pub host-key-spec : {M : Type 1} → statement M
 host-key-spec =
     tie.close
-    (tie.spec
-    initial-key-requires
-    refused-block-requires
-    returns
-    counter-of-requires
-    permitted-requires
-    refused-block-requires-2
-    returns-2
-    slice-aggregate-word-of
-    word-of-requires
-    cleared-tail-requires
-    register-key-requires
-    given-out-requires
-    block-of-requires
-    returns-3)
+    (tie.spec (λ c κs. search needs) (λ c κs. search needs) returns (λ c κs. search needs) (λ c κs. search needs)
+    (λ c κs. search needs) returns-2 (λ c. search needs) (λ c κs. search needs) (λ c κs. search needs)
+    register-key-requires (λ c κs. search needs) (λ c κs. search needs) returns-3)

@@ -11,31 +11,15 @@ use Rattle.host.specs.Entries.{sameHalves, initialKey}
 use Rattle.host.proofs.entries.initial_key.Statement.{statement}
 use Rattle.host.proofs.entries.initial_key.Tie as tie
 
-
-refused-block-requires : tie.Need-refused-block-requires
-refused-block-requires c κs = search needs
-
 returns : tie.Need-returns
 unfolding initialKey
 returns c = refused-block (c .refused-block .ensures) (size, refl, simp (ne-eqb _ _ (c .before .if1 .taken)))
-
-refused-block-requires-2 : tie.Need-refused-block-requires-2
-refused-block-requires-2 c κs = search needs
 
 returns-2 : tie.Need-returns-2
 unfolding initialKey
 returns-2 c =
     let e = c .before .before in
     refused-block (c .refused-block2 .ensures) (size, refl, simp (eq-eqb _ _ (e .if1 .left), ne-eqb _ _ (c .before .if2 .taken)))
-
-word-of-requires : tie.Need-word-of-requires
-word-of-requires c κs = search needs
-
-right-half-requires : tie.Need-right-half-requires
-right-half-requires c κs = search needs
-
-refused-block-requires-3 : tie.Need-refused-block-requires-3
-refused-block-requires-3 c κs = search needs
 
 returns-3 : tie.Need-returns-3
 unfolding initialKey
@@ -44,12 +28,6 @@ returns-3 c =
     let e = k .before .before in
     let same : sameHalves (e .before .before .before .args .derivation .now) ≡ true = eq-eqb _ _ (sym (k .word-of .ensures) ∙ c .before .if3 .taken ∙ c .before .before .right-half .ensures) in
     refused-block (c .refused-block3 .ensures) (equalHalves, refl, simp (eq-eqb _ _ (e .if1 .left), eq-eqb _ _ (k .before .if2 .left), same))
-
-initial-word-requires : tie.Need-initial-word-requires
-initial-word-requires c κs = search needs
-
-block-of-requires : tie.Need-block-of-requires
-block-of-requires c κs = search needs
 
 returns-4 : tie.Need-returns-4
 unfolding initialKey
@@ -64,15 +42,5 @@ returns-4 c =
 pub initial-key-spec : {M : Type 1} → statement M
 initial-key-spec =
     tie.close
-    (tie.spec
-    refused-block-requires
-    returns
-    refused-block-requires-2
-    returns-2
-    word-of-requires
-    right-half-requires
-    refused-block-requires-3
-    returns-3
-    initial-word-requires
-    block-of-requires
-    returns-4)
+    (tie.spec (λ c κs. search needs) returns (λ c κs. search needs) returns-2 (λ c κs. search needs)
+    (λ c κs. search needs) (λ c κs. search needs) returns-3 (λ c κs. search needs) (λ c κs. search needs) returns-4)

@@ -8,22 +8,6 @@ use Rattle.host.specs.Derivation.{initialKeyOf}
 use Rattle.host.proofs.entries.initial_word.Statement.{statement}
 use Rattle.host.proofs.entries.initial_word.Tie as tie
 
-
-word-of-requires : tie.Need-word-of-requires
-word-of-requires c κs = search needs
-
-word-of-requires-2 : tie.Need-word-of-requires-2
-word-of-requires-2 c κs = search needs
-
-right-half-requires : tie.Need-right-half-requires
-right-half-requires c κs = search needs
-
-sub-triple-encrypt : tie.Need-sub-triple-encrypt
-sub-triple-encrypt c = search needs
-
-triple-encrypt-requires : tie.Need-triple-encrypt-requires
-triple-encrypt-requires c κs = search needs
-
 returns : tie.Need-returns
 unfolding initialKeyOf
 returns c =
@@ -36,10 +20,5 @@ returns c =
 pub initial-word-spec : {M : Type 1} → statement M
 initial-word-spec =
     tie.close
-    (tie.spec
-    word-of-requires
-    word-of-requires-2
-    right-half-requires
-    sub-triple-encrypt
-    triple-encrypt-requires
-    returns)
+    (tie.spec (λ c κs. search needs) (λ c κs. search needs) (λ c κs. search needs) (λ c. search needs)
+    (λ c κs. search needs) returns)

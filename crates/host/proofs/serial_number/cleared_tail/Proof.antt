@@ -9,21 +9,6 @@ use Rattle.host.specs.SerialNumber.{withCounter, clearedTail}
 use Rattle.host.proofs.serial_number.cleared_tail.Statement.{statement}
 use Rattle.host.proofs.serial_number.cleared_tail.Tie as tie
 
-with-counter-requires : tie.Need-with-counter-requires
-with-counter-requires c κs = search needs
-
-sub-word-of : tie.Need-sub-word-of
-sub-word-of c = search needs
-
-part-word-of-start : tie.Need-part-word-of-start
-part-word-of-start c = search needs
-
-part-word-of-end : tie.Need-part-word-of-end
-part-word-of-end c = search needs
-
-word-of-requires : tie.Need-word-of-requires
-word-of-requires c κs = search needs
-
 returns : tie.Need-returns
 unfolding withCounter clearedTail
 returns c = c .word-of .ensures ∙ ap (λ (s : List ℕ). word (take 8 (drop 2 s))) (c .before .before .before .with-counter .ensures)
@@ -31,10 +16,5 @@ returns c = c .word-of .ensures ∙ ap (λ (s : List ℕ). word (take 8 (drop 2 
 pub cleared-tail-spec : {M : Type 1} → statement M
 cleared-tail-spec =
     tie.close
-    (tie.spec
-    with-counter-requires
-    sub-word-of
-    part-word-of-start
-    part-word-of-end
-    word-of-requires
-    returns)
+    (tie.spec (λ c κs. search needs) (λ c. search needs) (λ c. search needs) (λ c. search needs)
+    (λ c κs. search needs) returns)

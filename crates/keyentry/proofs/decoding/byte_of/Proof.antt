@@ -15,15 +15,6 @@ first c =
     let b = c .before .before .before in
     doubled-fits (b .before .before .args .place) (c .before .first .given .0 .0) (sym (c .before .first .given .1) ∙ b .digits-of .ensures)
 
-digits-of-requires : tie.Need-digits-of-requires
-digits-of-requires c κs = search needs
-
-enum-known-first : tie.Need-enum-known-first
-enum-known-first c = search needs
-
-enum-told : tie.Need-enum-told
-enum-told c = search needs
-
 returns : tie.Need-returns
 returns c =
     let b = c .before .before in
@@ -37,9 +28,6 @@ value-of-requires c κs =
     let s = c .before .before .before .before .before .before in
     all-at hexadecimal (s .args .text .now) _ (s .pre .1) (omega (arith, first (c .before)))
 
-mul-result : tie.Need-mul-result
-mul-result c = search needs
-
 add-value-of : tie.Need-add-value-of
 add-value-of c = record { fits = omega (arith, first (c .before .before)) }
 
@@ -51,9 +39,6 @@ value-of-requires-2 c κs =
     let s = c .before .before .before .before .before .before .before .before in
     all-at hexadecimal (s .args .text .now) _ (s .pre .1) (omega (arith, first (c .before .before .before)))
 
-add-result : tie.Need-add-result
-add-result c = search needs
-
 returns-2 : tie.Need-returns-2
 returns-2 c =
     let text = c .before .before .before .before .before .before .before .before .before .args .text .now in
@@ -62,16 +47,6 @@ returns-2 c =
 pub byte-of-spec : {M : Type 1} → statement M
 byte-of-spec =
     tie.close
-    (tie.spec
-    digits-of-requires
-    enum-known-first
-    enum-told
-    returns
-    shared-slice-read-value-of
-    value-of-requires
-    mul-result
-    add-value-of
-    shared-slice-read-value-of-2
-    value-of-requires-2
-    add-result
-    returns-2)
+    (tie.spec (λ c κs. search needs) (λ c. search needs) (λ c. search needs) returns shared-slice-read-value-of
+    value-of-requires (λ c. search needs) add-value-of shared-slice-read-value-of-2 value-of-requires-2
+    (λ c. search needs) returns-2)

@@ -9,21 +9,12 @@ use Rattle.keyentry.proofs.Texts.{key-length}
 use Rattle.keyentry.proofs.decoding.lend_bytes.Statement.{statement}
 use Rattle.keyentry.proofs.decoding.lend_bytes.Tie as tie
 
-refused-requires : tie.Need-refused-requires
-refused-requires c κs = search needs
-
 returns : tie.Need-returns
 returns c =
     let s = c .before .before .before .before in
     let n = key-length (s .args .text .now) (s .args .size .0) (s .pre .0) in
     let h = lt-leb (length (keyOf (s .args .text .now))) (length (s .args .out .now)) (omega (arith, n)) in
     record { number = simp h (cc); value = simp h (cc); memory = simp h }
-
-put-bytes-requires : tie.Need-put-bytes-requires
-put-bytes-requires c κs = search needs
-
-same-length : tie.Need-same-length
-same-length c = search needs
 
 returns-2 : tie.Need-returns-2
 returns-2 c =
@@ -34,4 +25,5 @@ returns-2 c =
 
 pub lend-bytes-spec : {M : Type 1} → statement M
 lend-bytes-spec =
-    tie.close (tie.spec refused-requires returns put-bytes-requires same-length returns-2)
+    tie.close
+    (tie.spec (λ c κs. search needs) returns (λ c κs. search needs) (λ c. search needs) returns-2)

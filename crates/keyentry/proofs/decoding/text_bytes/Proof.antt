@@ -16,18 +16,9 @@ use Rattle.keyentry.proofs.Sizes.{decoded}
 use Rattle.keyentry.proofs.decoding.text_bytes.Statement.{statement}
 use Rattle.keyentry.proofs.decoding.text_bytes.Tie as tie
 
-refused-requires : tie.Need-refused-requires
-refused-requires c κs = search needs
-
 returns : tie.Need-returns
 unfolding textBytes
 returns c = refused-answer (c .refused .ensures) (size, refl, simp (ne-eqb _ _ (c .before .if1 .taken)))
-
-all-of-kind-requires : tie.Need-all-of-kind-requires
-all-of-kind-requires c κs = search needs
-
-refused-requires-2 : tie.Need-refused-requires-2
-refused-requires-2 c κs = search needs
 
 -- the text has two digits for each byte
 even : (c : tie.Else1) → eqb (length (c .before .before .before .args .text .now) % 2) 0 ≡ true
@@ -47,9 +38,6 @@ digits c = sym (c .before .all-of-kind .ensures) ∙ not-false _ (c .if2 .left)
 lend-bytes-requires : tie.Need-lend-bytes-requires
 lend-bytes-requires c κs = (omega (arith, c .before .before .before .if1 .left), digits (c .before))
 
-same-length : tie.Need-same-length
-same-length c = search needs
-
 returns-3 : tie.Need-returns-3
 returns-3 c =
     let l = c .before .before in
@@ -58,12 +46,5 @@ returns-3 c =
 pub text-bytes-spec : {M : Type 1} → statement M
 text-bytes-spec =
     tie.close
-    (tie.spec
-    refused-requires
-    returns
-    all-of-kind-requires
-    refused-requires-2
-    returns-2
-    lend-bytes-requires
-    same-length
-    returns-3)
+    (tie.spec (λ c κs. search needs) returns (λ c κs. search needs) (λ c κs. search needs) returns-2
+    lend-bytes-requires (λ c. search needs) returns-3)

@@ -9,15 +9,6 @@ use Rattle.keyentry.proofs.Doublings.{doubled-fits, doubled-too-large}
 use Rattle.keyentry.proofs.entry.full_text.Statement.{statement}
 use Rattle.keyentry.proofs.entry.full_text.Tie as tie
 
-digits-of-requires : tie.Need-digits-of-requires
-digits-of-requires c κs = search needs
-
-enum-known-wanted : tie.Need-enum-known-wanted
-enum-known-wanted c = search needs
-
-enum-told : tie.Need-enum-told
-enum-told c = search needs
-
 returns : tie.Need-returns
 returns c =
     let a = c .before .before .before .before .args in
@@ -30,5 +21,4 @@ returns-2 c =
     rw (doubled-fits _ (k .wanted .given .0 .0) (sym (k .wanted .given .1) ∙ k .before .before .digits-of .ensures))
 
 pub full-text-spec : {M : Type 1} → statement M
-full-text-spec =
-    tie.close (tie.spec digits-of-requires enum-known-wanted enum-told returns returns-2)
+full-text-spec = tie.close (tie.spec (λ c κs. search needs) (λ c. search needs) (λ c. search needs) returns returns-2)

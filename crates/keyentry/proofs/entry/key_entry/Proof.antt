@@ -8,15 +8,9 @@ use Rattle.keyentry.specs.KeyEntry.{keyEntry}
 use Rattle.keyentry.proofs.entry.key_entry.Statement.{statement}
 use Rattle.keyentry.proofs.entry.key_entry.Tie as tie
 
-key-size-requires : tie.Need-key-size-requires
-key-size-requires c κs = search needs
-
 returns : tie.Need-returns
 unfolding keyEntry
 returns c = refused-answer refl (size, refl, simp (sym (c .before .key-size .ensures) ∙ not-true _ (c .if1 .taken)))
-
-full-text-requires : tie.Need-full-text-requires
-full-text-requires c κs = search needs
 
 returns-2 : tie.Need-returns-2
 unfolding keyEntry
@@ -24,12 +18,6 @@ returns-2 c =
     let k = c .before .before in
     refused-answer refl
     (size, refl, simp (sym (k .before .key-size .ensures) ∙ not-false _ (k .if1 .left), sym (c .before .full-text .ensures) ∙ not-true _ (c .if2 .taken)))
-
-text-bytes-requires : tie.Need-text-bytes-requires
-text-bytes-requires c κs = search needs
-
-same-length : tie.Need-same-length
-same-length c = search needs
 
 returns-3 : tie.Need-returns-3
 unfolding keyEntry
@@ -42,11 +30,5 @@ returns-3 c =
 pub key-entry-spec : {M : Type 1} → statement M
 key-entry-spec =
     tie.close
-    (tie.spec
-    key-size-requires
-    returns
-    full-text-requires
-    returns-2
-    text-bytes-requires
-    same-length
-    returns-3)
+    (tie.spec (λ c κs. search needs) returns (λ c κs. search needs) returns-2 (λ c κs. search needs)
+    (λ c. search needs) returns-3)

@@ -4,15 +4,9 @@ use Rattle.keyentry.specs.Hexadecimal.{textOf}
 use Rattle.keyentry.proofs.hexadecimal.byte_text.Statement.{statement}
 use Rattle.keyentry.proofs.hexadecimal.byte_text.Tie as tie
 
-digit-of-requires : tie.Need-digit-of-requires
-digit-of-requires c κs = search needs
-
-digit-of-requires-2 : tie.Need-digit-of-requires-2
-digit-of-requires-2 c κs = search needs
-
 returns : tie.Need-returns
 unfolding textOf
 returns c = rw (c .before .digit-of .ensures, c .digit-of2 .ensures)
 
 pub byte-text-spec : {M : Type 1} → statement M
-byte-text-spec = tie.close (tie.spec digit-of-requires digit-of-requires-2 returns)
+byte-text-spec = tie.close (tie.spec (λ c κs. search needs) (λ c κs. search needs) returns)

@@ -15,9 +15,6 @@ letter : (x : ℕ) → hexadecimal x ≡ true → digit x ≡ false → (65 ≤ 
 unfolding hexadecimal
 letter x e d = between-true 65 70 (capitalized x) (simp d at e)
 
-is-digit-requires : tie.Need-is-digit-requires
-is-digit-requires c κs = search needs
-
 sub-result : tie.Need-sub-result
 sub-result c =
     omega (arith, between-true 48 57 (c .before .before .args .x) (sym (c .before .is-digit .ensures) ∙ c .if1 .taken))
@@ -27,9 +24,6 @@ unfolding valueOf
 returns c =
     let e = sym (c .before .is-digit .ensures) ∙ c .if1 .taken in
     (simp e, omega (arith, between-true 48 57 (c .before .before .args .x) e))
-
-capitalized-requires : tie.Need-capitalized-requires
-capitalized-requires c κs = search needs
 
 sub-result-2 : tie.Need-sub-result-2
 sub-result-2 c =
@@ -46,4 +40,4 @@ returns-2 c =
 pub value-of-spec : {M : Type 1} → statement M
 value-of-spec =
     tie.close
-    (tie.spec is-digit-requires sub-result returns capitalized-requires sub-result-2 returns-2)
+    (tie.spec (λ c κs. search needs) sub-result returns (λ c κs. search needs) sub-result-2 returns-2)

@@ -13,9 +13,6 @@ returns c =
     let large : 2 ^ 64 ≤ 2 * c .before .args .size .0 = omega arith in
     simp (le-ltb _ _ large)
 
-mul-t4 : tie.Need-mul-t4
-mul-t4 c = search needs
-
 returns-2 : tie.Need-returns-2
 unfolding doubled
 returns-2 c =
@@ -23,4 +20,4 @@ returns-2 c =
     simp (lt-ltb _ _ fits)
 
 pub digits-of-spec : {M : Type 1} → statement M
-digits-of-spec = tie.close (tie.spec returns mul-t4 returns-2)
+digits-of-spec = tie.close (tie.spec returns (λ c. search needs) returns-2)

@@ -17,27 +17,12 @@ Inv-loop kind s i₀ i = (i ≤ length s) × (all (ofKind kind) (drop i s) ≡ a
 abbrev μ-loop : tie.MeasureT-loop
 μ-loop kind s i₀ i = length s - i
 
-loop-holds : tie.Need-loop-holds Inv-loop μ-loop
-loop-holds c = search needs
-
-shared-slice-read-is-of-kind : tie.Need-shared-slice-read-is-of-kind Inv-loop μ-loop
-shared-slice-read-is-of-kind c = search needs
-
-is-of-kind-requires : tie.Need-is-of-kind-requires Inv-loop μ-loop
-is-of-kind-requires c κs = search needs
-
 returns : tie.Need-returns Inv-loop μ-loop
 returns c =
     let l = c .before .before .before .before .loop in
     let a = c .before .before .before .before .before .before .args in
     all-fails (ofKind (a .kind)) (a .s .now) (l .i) (l .inv .1) (omega arith)
     (sym (c .before .is-of-kind .ensures) ∙ not-true _ (c .if1 .taken))
-
-add-i : tie.Need-add-i Inv-loop μ-loop
-add-i c = search needs
-
-loop-less : tie.Need-loop-less Inv-loop μ-loop
-loop-less c = search needs
 
 loop-again : tie.Need-loop-again Inv-loop μ-loop
 loop-again c =
@@ -54,14 +39,5 @@ returns-2 c = let a = c .before .before .before .args in all-ends (ofKind (a .ki
 pub all-of-kind-spec : {M : Type 1} → statement M
 all-of-kind-spec =
     tie.close
-    (tie.spec
-    Inv-loop
-    μ-loop
-    loop-holds
-    shared-slice-read-is-of-kind
-    is-of-kind-requires
-    returns
-    add-i
-    loop-less
-    loop-again
-    returns-2)
+    (tie.spec Inv-loop μ-loop (λ c. search needs) (λ c. search needs) (λ c κs. search needs) returns
+    (λ c. search needs) (λ c. search needs) loop-again returns-2)

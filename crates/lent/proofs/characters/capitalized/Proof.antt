@@ -7,9 +7,6 @@ use Rattle.lent.proofs.Laws.{between-true}
 use Rattle.lent.proofs.characters.capitalized.Statement.{statement}
 use Rattle.lent.proofs.characters.capitalized.Tie as tie
 
-between-requires : tie.Need-between-requires
-between-requires c κs = search needs
-
 sub-result : tie.Need-sub-result
 sub-result c =
     omega (arith, between-true 97 122 (c .before .before .args .x) (sym (c .before .between .ensures) ∙ c .if1 .taken))
@@ -23,4 +20,4 @@ unfolding capitalized
 returns-2 c = simp (sym (c .before .between .ensures) ∙ c .if1 .left)
 
 pub capitalized-spec : {M : Type 1} → statement M
-capitalized-spec = tie.close (tie.spec between-requires sub-result returns returns-2)
+capitalized-spec = tie.close (tie.spec (λ c κs. search needs) sub-result returns returns-2)

@@ -7,19 +7,10 @@ use lib.ListN.{length}
 use Rattle.lent.proofs.memory.lend.Statement.{statement}
 use Rattle.lent.proofs.memory.lend.Tie as tie
 
-refused-requires : tie.Need-refused-requires
-refused-requires c κs = search needs
-
 returns : tie.Need-returns
 returns c =
     let h = lt-leb _ _ (c .before .if1 .taken) in
     record { number = simp h (cc); value = simp h (cc); memory = simp h }
-
-copy-requires : tie.Need-copy-requires
-copy-requires c κs = search needs
-
-same-length : tie.Need-same-length
-same-length c = search needs
 
 returns-2 : tie.Need-returns-2
 returns-2 c =
@@ -29,5 +20,4 @@ returns-2 c =
     record { number = simp h; value = simp h; memory = simp h (c .before .before .copy .ensures) }
 
 pub lend-spec : {M : Type 1} → statement M
-lend-spec =
-    tie.close (tie.spec refused-requires returns copy-requires same-length returns-2)
+lend-spec = tie.close (tie.spec (λ c κs. search needs) returns (λ c κs. search needs) (λ c. search needs) returns-2)

@@ -8,30 +8,6 @@ use Rattle.lent.specs.Words.{toBase, wordBytes}
 use Rattle.lent.proofs.words.bytes_of.Statement.{statement}
 use Rattle.lent.proofs.words.bytes_of.Tie as tie
 
-low-byte-requires : tie.Need-low-byte-requires
-low-byte-requires c κs = search needs
-
-low-byte-requires-2 : tie.Need-low-byte-requires-2
-low-byte-requires-2 c κs = search needs
-
-low-byte-requires-3 : tie.Need-low-byte-requires-3
-low-byte-requires-3 c κs = search needs
-
-low-byte-requires-4 : tie.Need-low-byte-requires-4
-low-byte-requires-4 c κs = search needs
-
-low-byte-requires-5 : tie.Need-low-byte-requires-5
-low-byte-requires-5 c κs = search needs
-
-low-byte-requires-6 : tie.Need-low-byte-requires-6
-low-byte-requires-6 c κs = search needs
-
-low-byte-requires-7 : tie.Need-low-byte-requires-7
-low-byte-requires-7 c κs = search needs
-
-low-byte-requires-8 : tie.Need-low-byte-requires-8
-low-byte-requires-8 c κs = search needs
-
 eight : (x : ℕ) {a b c d e f g h : ℕ}
     → a ≡ x / 2 ^ 56 % 256 → b ≡ x / 2 ^ 48 % 256 → c ≡ x / 2 ^ 40 % 256 → d ≡ x / 2 ^ 32 % 256
     → e ≡ x / 2 ^ 24 % 256 → f ≡ x / 2 ^ 16 % 256 → g ≡ x / 2 ^ 8 % 256 → h ≡ x % 256
@@ -54,13 +30,5 @@ returns c =
 pub bytes-of-spec : {M : Type 1} → statement M
 bytes-of-spec =
     tie.close
-    (tie.spec
-    low-byte-requires
-    low-byte-requires-2
-    low-byte-requires-3
-    low-byte-requires-4
-    low-byte-requires-5
-    low-byte-requires-6
-    low-byte-requires-7
-    low-byte-requires-8
-    returns)
+    (tie.spec (λ c κs. search needs) (λ c κs. search needs) (λ c κs. search needs) (λ c κs. search needs)
+    (λ c κs. search needs) (λ c κs. search needs) (λ c κs. search needs) (λ c κs. search needs) returns)

@@ -20,21 +20,12 @@ loop-holds : tie.Need-loop-holds Inv-loop μ-loop
 unfolding fromBase
 loop-holds c = (search needs, search needs, refl)
 
-byte-at-requires : tie.Need-byte-at-requires Inv-loop μ-loop
-byte-at-requires c κs = search needs
-
 -- fewer than eight bytes leave room for one more
 room : {i : ℕ} → i < 8 → 256 ^ i ≤ 256 ^ 7
 room {i} h = let l : i ≤ 7 = omega arith in pow-le-pow-right (lit< tt) l
 
 with-byte-requires : tie.Need-with-byte-requires Inv-loop μ-loop
 with-byte-requires c κs = let h = room {i = c .before .before .loop .i} (omega arith) in omega arith
-
-add-i : tie.Need-add-i Inv-loop μ-loop
-add-i c = search needs
-
-loop-less : tie.Need-loop-less Inv-loop μ-loop
-loop-less c = search needs
 
 loop-again : tie.Need-loop-again Inv-loop μ-loop
 unfolding fromBase
@@ -48,13 +39,5 @@ returns c = let e : c .before .loop .i ≡ c .before .before .before .args .n = 
 pub from-bytes-spec : {M : Type 1} → statement M
 from-bytes-spec =
     tie.close
-    (tie.spec
-    Inv-loop
-    μ-loop
-    loop-holds
-    byte-at-requires
-    with-byte-requires
-    add-i
-    loop-less
-    loop-again
-    returns)
+    (tie.spec Inv-loop μ-loop loop-holds (λ c κs. search needs) with-byte-requires (λ c. search needs)
+    (λ c. search needs) loop-again returns)

@@ -8,22 +8,9 @@ use Rattle.recordbytes.proofs.Cutting.{none, part}
 use Rattle.recordbytes.proofs.record.put_record.Statement.{statement}
 use Rattle.recordbytes.proofs.record.put_record.Tie as tie
 
-
-cast-t10 : tie.Need-cast-t10
-cast-t10 c = search needs
-
 -- the sizes of the registers and of the serial number
 sizes : (c : tie.After-serial) → let t = c .before .before .before .args .t in (length (t .keys) ≡ 21) × (length (t .serial) ≡ 10)
 sizes c = (search needs, search needs)
-
-put-registers-requires : tie.Need-put-registers-requires
-put-registers-requires c κs = search needs
-
-put-number-requires : tie.Need-put-number-requires
-put-number-requires c κs = search needs
-
-slice-aggregate-put : tie.Need-slice-aggregate-put
-slice-aggregate-put c = search needs
 
 put-requires : tie.Need-put-requires
 put-requires c κs =
@@ -33,16 +20,10 @@ put-requires c κs =
 put-number-requires-2 : tie.Need-put-number-requires-2
 put-number-requires-2 c κs = omega (arith, c .before .before .before .put .ensures .end, sizes (c .before .before .before .before .before .before .before .before .before .before .before .before .before .before .before) .1)
 
-slice-aggregate-put-2 : tie.Need-slice-aggregate-put-2
-slice-aggregate-put-2 c = search needs
-
 put-requires-2 : tie.Need-put-requires-2
 put-requires-2 c κs =
     let p = c .before .before .before .before .before .before .before .before in
     omega (arith, p .put .ensures .end, c .before .before .before .before .put-number2 .ensures .1, sizes (p .before .before .before .before .before .before .before .before .before .before .before .before) .1)
-
-same-length : tie.Need-same-length
-same-length c = search needs
 
 returns : tie.Need-returns
 returns c =
@@ -63,14 +44,5 @@ returns c =
 pub put-record-spec : {M : Type 1} → statement M
 put-record-spec =
     tie.close
-    (tie.spec
-    cast-t10
-    put-registers-requires
-    put-number-requires
-    slice-aggregate-put
-    put-requires
-    put-number-requires-2
-    slice-aggregate-put-2
-    put-requires-2
-    same-length
-    returns)
+    (tie.spec (λ c. search needs) (λ c κs. search needs) (λ c κs. search needs) (λ c. search needs) put-requires
+    put-number-requires-2 (λ c. search needs) put-requires-2 (λ c. search needs) returns)

@@ -16,7 +16,6 @@ use Rattle.recordbytes.specs.RecordBytes.{registerBytes}
 use Rattle.recordbytes.proofs.record.put_registers.Statement.{statement}
 use Rattle.recordbytes.proofs.record.put_registers.Tie as tie
 
-
 abbrev Inv-loop : tie.InvT-loop
 Inv-loop bytes₀ keys n₀ i₀ bytes n i =
     (i ≤ 21) × (length bytes ≡ 187) × (n ≡ 8 * i) × Appended (registerBytes (take i keys)) bytes₀ bytes 0 n
@@ -38,28 +37,10 @@ loop-holds : tie.Need-loop-holds Inv-loop μ-loop
 unfolding registerBytes
 loop-holds c = (search needs, search needs, refl, nothing-appended)
 
-mul-bytes-of : tie.Need-mul-bytes-of Inv-loop μ-loop
-mul-bytes-of c = search needs
-
-array-read-bytes-of : tie.Need-array-read-bytes-of Inv-loop μ-loop
-array-read-bytes-of c = search needs
-
-bytes-of-requires : tie.Need-bytes-of-requires Inv-loop μ-loop
-bytes-of-requires c κs = search needs
-
-slice-aggregate-put : tie.Need-slice-aggregate-put Inv-loop μ-loop
-slice-aggregate-put c = search needs
-
 put-requires : tie.Need-put-requires Inv-loop μ-loop
 put-requires c κs =
     let l = c .before .before .before .before in
     omega (arith, ap length (c .before .before .bytes-of .ensures), to-length 256 8 (getD (l .before .before .args .t1) (l .loop .i) 0))
-
-add-i : tie.Need-add-i Inv-loop μ-loop
-add-i c = search needs
-
-loop-less : tie.Need-loop-less Inv-loop μ-loop
-loop-less c = search needs
 
 loop-again : tie.Need-loop-again Inv-loop μ-loop
 loop-again c =
@@ -68,9 +49,6 @@ loop-again c =
     let k = one-more (l .before .before .args .t1) (l .before .before .args .bytes .now) (l .loop .i) (omega arith) (omega arith) (omega arith) (l .loop .inv .2) (l .loop .inv .3)
         (rw b at (c .before .before .put .ensures)) in
     (search needs, search needs, k .1, k .0)
-
-same-length : tie.Need-same-length Inv-loop μ-loop
-same-length c = search needs
 
 returns : tie.Need-returns Inv-loop μ-loop
 returns c =
@@ -82,17 +60,5 @@ returns c =
 pub put-registers-spec : {M : Type 1} → statement M
 put-registers-spec =
     tie.close
-    (tie.spec
-    Inv-loop
-    μ-loop
-    loop-holds
-    mul-bytes-of
-    array-read-bytes-of
-    bytes-of-requires
-    slice-aggregate-put
-    put-requires
-    add-i
-    loop-less
-    loop-again
-    same-length
-    returns)
+    (tie.spec Inv-loop μ-loop loop-holds (λ c. search needs) (λ c. search needs) (λ c κs. search needs)
+    (λ c. search needs) put-requires (λ c. search needs) (λ c. search needs) loop-again (λ c. search needs) returns)

@@ -10,25 +10,13 @@ use Rattle.terminal.proofs.Records.{after-none, after-next}
 use Rattle.terminal.proofs.calls.after_key.Statement.{statement}
 use Rattle.terminal.proofs.calls.after_key.Tie as tie
 
-next-counter-requires : tie.Need-next-counter-requires
-next-counter-requires c κs = search needs
-
 returns : tie.Need-returns
 returns c = after-none (c .before .before .before .before .args .t) (sym (c .before .next-counter .ensures) ∙ c .if1 .taken)
-
-slice-aggregate-cleared-tail : tie.Need-slice-aggregate-cleared-tail
-slice-aggregate-cleared-tail c = search needs
-
-cleared-tail-requires : tie.Need-cleared-tail-requires
-cleared-tail-requires c κs = search needs
 
 renewed-requires : tie.Need-renewed-requires
 renewed-requires c κs =
     let k = c .before .before .before .before .before .before in
     (k .pre .permitted, omega (arith, tail-clear (k .args .t .serial), c .cleared-tail .ensures))
-
-filled-mask-requires : tie.Need-filled-mask-requires
-filled-mask-requires c κs = search needs
 
 returns-2 : tie.Need-returns-2
 returns-2 c =
@@ -40,11 +28,5 @@ returns-2 c =
 pub after-key-spec : {M : Type 1} → statement M
 after-key-spec =
     tie.close
-    (tie.spec
-    next-counter-requires
-    returns
-    slice-aggregate-cleared-tail
-    cleared-tail-requires
-    renewed-requires
-    filled-mask-requires
-    returns-2)
+    (tie.spec (λ c κs. search needs) returns (λ c. search needs) (λ c κs. search needs) renewed-requires
+    (λ c κs. search needs) returns-2)

@@ -18,27 +18,15 @@ use Rattle.terminal.proofs.calls.next_key.Tie as tie
 ok : (c : tie.Else1) → ValidRecord (c .before .before .before .args .t)
 ok c = c .before .valid .ensures .0 (not-false _ (c .if1 .left))
 
-valid-requires : tie.Need-valid-requires
-valid-requires c κs = search needs
-
-refused-requires : tie.Need-refused-requires
-refused-requires c κs = search needs
-
 returns : tie.Need-returns
 returns c =
     let bad : ¬ ValidRecord (c .before .before .before .before .args .t) = λ v. false≢true (sym (not-true _ (c .before .if1 .taken)) ∙ c .before .before .valid .ensures .1 v) in
     rw (c .refused .ensures) (next-refused (c .before .before .before .before .args .t) _ 11 (promises.invalid bad) (λ z. omega arith))
 
-refused-requires-2 : tie.Need-refused-requires-2
-refused-requires-2 c κs = search needs
-
 returns-2 : tie.Need-returns-2
 returns-2 c =
     rw (c .refused2 .ensures)
     (next-refused (c .before .before .before .before .before .args .t) _ 12 (promises.exhausted (ok (c .before .before)) (c .before .if2 .taken)) (λ z. omega arith))
-
-refused-requires-3 : tie.Need-refused-requires-3
-refused-requires-3 c κs = search needs
 
 returns-3 : tie.Need-returns-3
 returns-3 c =
@@ -48,25 +36,10 @@ returns-3 c =
 ready-key-requires : tie.Need-ready-key-requires
 ready-key-requires c κs = runs (c .before .before .before .before .before .args .t) (ok (c .before .before)) (c .before .if2 .left)
 
-given-out-requires : tie.Need-given-out-requires
-given-out-requires c κs = search needs
-
-lend-word-requires : tie.Need-lend-word-requires
-lend-word-requires c κs = search needs
-
-slice-aggregate-with-counter : tie.Need-slice-aggregate-with-counter
-slice-aggregate-with-counter c = search needs
-
-with-counter-requires : tie.Need-with-counter-requires
-with-counter-requires c κs = search needs
-
 after-key-requires : tie.Need-after-key-requires
 after-key-requires c κs =
     let k = c .before .before .before .before .before .before .before .before .before in
     runs (k .before .before .before .before .before .args .t) (ok (k .before .before)) (k .before .if2 .left)
-
-same-length : tie.Need-same-length
-same-length c = search needs
 
 returns-4 : tie.Need-returns-4
 returns-4 c =
@@ -85,19 +58,6 @@ returns-4 c =
 pub next-key-spec : {M : Type 1} → statement M
 next-key-spec =
     tie.close
-    (tie.spec
-    valid-requires
-    refused-requires
-    returns
-    refused-requires-2
-    returns-2
-    refused-requires-3
-    returns-3
-    ready-key-requires
-    given-out-requires
-    lend-word-requires
-    slice-aggregate-with-counter
-    with-counter-requires
-    after-key-requires
-    same-length
-    returns-4)
+    (tie.spec (λ c κs. search needs) (λ c κs. search needs) returns (λ c κs. search needs) returns-2
+    (λ c κs. search needs) returns-3 ready-key-requires (λ c κs. search needs) (λ c κs. search needs)
+    (λ c. search needs) (λ c κs. search needs) after-key-requires (λ c. search needs) returns-4)

@@ -10,9 +10,6 @@ use Rattle.terminal.proofs.calls.ready_key.Tie as tie
 place : (c : tie.After-lowest-place) → c .lowest-place .result < 21
 place c = let ok = c .before .pre .permitted in omega (arith, c .lowest-place .ensures, place-lt (c .before .args .t1 .counter) (ok .from-one) (ok .fits))
 
-lowest-place-requires : tie.Need-lowest-place-requires
-lowest-place-requires c κs = search needs
-
 mul-result : tie.Need-mul-result
 mul-result c = omega (arith, place c)
 
@@ -23,5 +20,4 @@ returns : tie.Need-returns
 returns c = rw (c .before .lowest-place .ensures)
 
 pub ready-key-spec : {M : Type 1} → statement M
-ready-key-spec =
-    tie.close (tie.spec lowest-place-requires mul-result element-copy-out-result returns)
+ready-key-spec = tie.close (tie.spec (λ c κs. search needs) mul-result element-copy-out-result returns)

@@ -25,39 +25,15 @@ abbrev μ-loop : tie.MeasureT-loop
 loop-holds : tie.Need-loop-holds Inv-loop μ-loop
 loop-holds c = (search needs, sym (fill-none _ _))
 
-cast-wide : tie.Need-cast-wide Inv-loop μ-loop
-cast-wide c = search needs
-
-shl-wide : tie.Need-shl-wide Inv-loop μ-loop
-shl-wide c = search needs
-
 add-wide : tie.Need-add-wide Inv-loop μ-loop
 add-wide c =
     let k = c .before .before in
     omega (arith, shifted (c .before .loop .b) (k .args .n) (k .args .c) (omega arith) (k .pre .0) (k .pre .1 .0))
 
-wide-requires : tie.Need-wide-requires Inv-loop μ-loop
-wide-requires c κs = search needs
-
 add-one-way : tie.Need-add-one-way Inv-loop μ-loop
 add-one-way c =
     let k = c .before .before .before in
     omega (arith, shifted (c .before .before .loop .b) (k .args .n) (k .args .c) (omega arith) (k .pre .0) (k .pre .1 .0), c .wide .ensures)
-
-one-way-requires : tie.Need-one-way-requires Inv-loop μ-loop
-one-way-requires c κs = search needs
-
-mul-out : tie.Need-mul-out Inv-loop μ-loop
-mul-out c = search needs
-
-array-write-out : tie.Need-array-write-out Inv-loop μ-loop
-array-write-out c = search needs
-
-add-b : tie.Need-add-b Inv-loop μ-loop
-add-b c = search needs
-
-loop-less : tie.Need-loop-less Inv-loop μ-loop
-loop-less c = search needs
 
 loop-again : tie.Need-loop-again Inv-loop μ-loop
 loop-again c =
@@ -75,19 +51,6 @@ returns c = let e : c .before .loop .b ≡ c .before .before .args .n = omega ar
 pub filled-from-spec : {M : Type 1} → statement M
 filled-from-spec =
     tie.close
-    (tie.spec
-    Inv-loop
-    μ-loop
-    loop-holds
-    cast-wide
-    shl-wide
-    add-wide
-    wide-requires
-    add-one-way
-    one-way-requires
-    mul-out
-    array-write-out
-    add-b
-    loop-less
-    loop-again
-    returns)
+    (tie.spec Inv-loop μ-loop loop-holds (λ c. search needs) (λ c. search needs) add-wide (λ c κs. search needs)
+    add-one-way (λ c κs. search needs) (λ c. search needs) (λ c. search needs) (λ c. search needs) (λ c. search needs)
+    loop-again returns)

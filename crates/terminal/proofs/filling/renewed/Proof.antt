@@ -11,9 +11,6 @@ use Rattle.terminal.proofs.filling.renewed.Tie as tie
 place : (c : tie.After-lowest-place) → c .lowest-place .result < 21
 place c = let ok = c .before .pre .0 in omega (arith, c .lowest-place .ensures, place-lt (c .before .args .c) (ok .from-one) (ok .fits))
 
-lowest-place-requires : tie.Need-lowest-place-requires
-lowest-place-requires c κs = search needs
-
 mul-key : tie.Need-mul-key
 mul-key c = omega (arith, place (c .before))
 
@@ -50,14 +47,5 @@ returns-2 c =
 pub renewed-spec : {M : Type 1} → statement M
 renewed-spec =
     tie.close
-    (tie.spec
-    lowest-place-requires
-    mul-key
-    array-read-key
-    filled-from-requires
-    mul-few
-    array-write-few
-    returns
-    mul-kept
-    array-write-kept
-    returns-2)
+    (tie.spec (λ c κs. search needs) mul-key array-read-key filled-from-requires mul-few array-write-few returns
+    mul-kept array-write-kept returns-2)

@@ -10,17 +10,11 @@ use Rattle.terminal.specs.Promises.{loading}
 use Rattle.terminal.proofs.loading.load.Statement.{statement}
 use Rattle.terminal.proofs.loading.load.Tie as tie
 
-refused-requires : tie.Need-refused-requires
-refused-requires c κs = search needs
-
 returns : tie.Need-returns
 unfolding loading
 returns c =
     let e = ne-eqb _ _ (c .before .if1 .taken) in
     rw (c .refused .ensures) (record { number = simp e; terminal = simp e })
-
-refused-requires-2 : tie.Need-refused-requires-2
-refused-requires-2 c κs = search needs
 
 returns-2 : tie.Need-returns-2
 unfolding loading
@@ -29,21 +23,9 @@ returns-2 c =
     let f = ne-eqb _ _ (c .before .if2 .taken) in
     rw (c .refused2 .ensures) (record { number = simp (e, f); terminal = simp (e, f) })
 
-word-of-requires : tie.Need-word-of-requires
-word-of-requires c κs = search needs
-
-cleared-tail-requires : tie.Need-cleared-tail-requires
-cleared-tail-requires c κs = search needs
-
 filled-from-requires : tie.Need-filled-from-requires
 filled-from-requires c κs =
     (lit≤ tt, (lit≤ tt, omega (arith, tail-clear (c .before .before .before .before .before .before .args .serial .now), c .cleared-tail .ensures)))
-
-filled-mask-requires : tie.Need-filled-mask-requires
-filled-mask-requires c κs = search needs
-
-with-counter-requires : tie.Need-with-counter-requires
-with-counter-requires c κs = search needs
 
 returns-3 : tie.Need-returns-3
 unfolding loading loadedRecord loaded
@@ -59,14 +41,5 @@ returns-3 c =
 pub load-spec : {M : Type 1} → statement M
 load-spec =
     tie.close
-    (tie.spec
-    refused-requires
-    returns
-    refused-requires-2
-    returns-2
-    word-of-requires
-    cleared-tail-requires
-    filled-from-requires
-    filled-mask-requires
-    with-counter-requires
-    returns-3)
+    (tie.spec (λ c κs. search needs) returns (λ c κs. search needs) returns-2 (λ c κs. search needs)
+    (λ c κs. search needs) filled-from-requires (λ c κs. search needs) (λ c κs. search needs) returns-3)

@@ -11,13 +11,10 @@ returns c =
     let a = c .before .args in
     (λ e. inr (c .if1 .taken, eqb-true _ _ e), λ h. eq-eqb _ _ (stops-counted (a .counter) (a .exhausted) (c .if1 .taken) h))
 
-permitted-requires : tie.Need-permitted-requires
-permitted-requires c κs = search needs
-
 returns-2 : tie.Need-returns-2
 returns-2 c =
     let a = c .before .before .args in
     (λ e. inl (c .before .if1 .left, c .permitted .ensures .0 e), λ h. c .permitted .ensures .1 (runs-counted (a .counter) (a .exhausted) (c .before .if1 .left) h))
 
 pub counted-spec : {M : Type 1} → statement M
-counted-spec = tie.close (tie.spec returns permitted-requires returns-2)
+counted-spec = tie.close (tie.spec returns (λ c κs. search needs) returns-2)

@@ -10,33 +10,18 @@ use Rattle.terminal.proofs.Records.{valid-made}
 use Rattle.terminal.proofs.state.valid.Statement.{statement}
 use Rattle.terminal.proofs.state.valid.Tie as tie
 
-slice-aggregate-counter-of : tie.Need-slice-aggregate-counter-of
-slice-aggregate-counter-of c = search needs
-
-counter-of-requires : tie.Need-counter-of-requires
-counter-of-requires c κs = search needs
-
 returns : tie.Need-returns
 returns c = (λ e. absurd (false≢true e), λ v. absurd (c .if1 .taken (c .before .counter-of .ensures ∙ v .clear)))
-
-counted-requires : tie.Need-counted-requires
-counted-requires c κs = search needs
 
 returns-2 : tie.Need-returns-2
 returns-2 c =
     let checked = valid-checked dukpt (view (c .before .before .before .before .before .before .args .t)) in
     (λ e. absurd (false≢true e), λ v. absurd (false≢true (sym (not-true _ (c .if2 .taken)) ∙ c .before .counted .ensures .1 (checked (v .state) .phase))))
 
-filled-mask-requires : tie.Need-filled-mask-requires
-filled-mask-requires c κs = search needs
-
 returns-3 : tie.Need-returns-3
 returns-3 c =
     let checked = valid-checked dukpt (view (c .before .before .before .before .before .before .before .before .before .args .t)) in
     (λ e. absurd (false≢true e), λ v. absurd (c .if3 .taken (checked (v .state) .mask ∙ sym (c .before .before .filled-mask .ensures))))
-
-empties-requires : tie.Need-empties-requires
-empties-requires c κs = search needs
 
 returns-4 : tie.Need-returns-4
 returns-4 c =
@@ -53,13 +38,5 @@ returns-4 c =
 pub valid-spec : {M : Type 1} → statement M
 valid-spec =
     tie.close
-    (tie.spec
-    slice-aggregate-counter-of
-    counter-of-requires
-    returns
-    counted-requires
-    returns-2
-    filled-mask-requires
-    returns-3
-    empties-requires
-    returns-4)
+    (tie.spec (λ c. search needs) (λ c κs. search needs) returns (λ c κs. search needs) returns-2
+    (λ c κs. search needs) returns-3 (λ c κs. search needs) returns-4)
