@@ -4,17 +4,19 @@ use mathlib.Core.Path.{_≡_, refl, sym, ap, _∙_}
 use mathlib.Core.Bool.{true}
 use mathlib.Core.List.{List}
 use Prim.Native.Nat.{ℕ, _≤_}
+use native.Mathlib.Omega.{arith}
 use lib.Dec.{eqb, leb}
-use lib.ListN.{length, take, replicate}
+use lib.ListN.{length, take, drop, replicate, length-append}
+use lib.Seq.{take-append-seam}
 use Rattle.lent.specs.Result.{Result, done, refused, number, andThen, lend, over, Answered, Written}
 use Rattle.lent.proofs.Laws.{cases}
-use Rattle.lent.proofs.Results.{Refuses, same-done, written-zero, written-done}
+use Rattle.lent.proofs.Results.{Refuses, not-zero, same-done, written-zero, written-done}
 use Rattle.message.specs.Records.{Field, messageFields}
 use Rattle.message.specs.Text.{messageText, Agree}
 use Rattle.message.proofs.Laws.{same-text, never-empty, at-most-166}
 use Rattle.message.proofs.Results.{refuses-then}
 use Rattle.mac.specs.declared.TextMac.{TextMac}
-use Rattle.mac.specs.Mac.{macOf, cleanedMac, messageMac, messageTextAndMac, lendText, TextAndMac}
+use Rattle.mac.specs.Mac.{macOf, cleanedMac, messageMac, messageTextAndMac, lendText, textIn, macIn, TextAndMac}
 
 -- two accepted messages that agree on the listed fields have, under one key, the same MAC
 pub same-mac : (key m k : List ℕ) (fs gs : List Field)
@@ -32,35 +34,51 @@ text-and-mac key m e = decided (messageText m) refl
     decided (done t) d = simp (eq-eqb _ _ e, d, lt-ltb _ _ (never-empty m t d))
     decided (refused why) d = simp (eq-eqb _ _ e, d)
 
--- a message's MAC is the one that is answered with its text, for which 166 bytes are enough
-mac-alone : (key m : List ℕ) → andThen (lendText 166 (messageTextAndMac key m)) (λ a. done (a .1)) ≡ messageMac key m
+-- 166 bytes are enough for a message's text, and its MAC is the one that is answered with it
+both-fit : (key m : List ℕ)
+    → (lendText 166 (messageTextAndMac key m) ≡ messageTextAndMac key m) × (andThen (messageTextAndMac key m) (λ a. done (a .1)) ≡ messageMac key m)
 unfolding messageTextAndMac messageMac cleanedMac
-mac-alone key m = cases (eqb (length key) 8) (λ k. decided k (messageText m) refl) (λ n. simp n)
+both-fit key m = cases (eqb (length key) 8) (λ k. decided k (messageText m) refl) (λ n. (simp n, simp n))
   where
     decided : eqb (length key) 8 ≡ true → (r : Result (List ℕ)) → messageText m ≡ r
-        → andThen (lendText 166 (messageTextAndMac key m)) (λ a. done (a .1)) ≡ messageMac key m
-    decided k (done t) d = simp (k, d, lt-ltb _ _ (never-empty m t d), le-leb _ _ (at-most-166 m t d))
-    decided k (refused why) d = simp (k, d)
-
-number-alone : (r : Result (List ℕ × List ℕ)) → number r ≡ number (andThen r (λ a. done (a .1)))
-number-alone (done a) = refl
-number-alone (refused why) = refl
-
-pub answered-alone : (key m : List ℕ) {before after val : List ℕ} {num len : ℕ} → length before ≡ 166
-    → TextAndMac (messageTextAndMac key m) before num len val after → Answered 8 (messageMac key m) num val
-answered-alone key m l w =
-    let e = mac-alone key m in
-    record {
-      number = rw l at (w .number) ∙ number-alone (lendText 166 (messageTextAndMac key m)) ∙ ap number e;
-      value = rw (l, e) at (w .mac);
-    }
-
--- ---- what is left in lent memory
+        → (lendText 166 (messageTextAndMac key m) ≡ messageTextAndMac key m) × (andThen (messageTextAndMac key m) (λ a. done (a .1)) ≡ messageMac key m)
+    decided k (done t) d =
+        let some = lt-ltb _ _ (never-empty m t d) in
+        (simp (k, d, some, le-leb _ _ (at-most-166 m t d)), simp (k, d, some))
+    decided k (refused why) d = (simp (k, d), simp (k, d))
 
 -- the number of a refusal
 numbered : {A : Type 0} (r : Result A) (num : ℕ) → num ≡ number r → (num ≡ 0 → ⊥) → Refuses num r
 numbered (done a) num e z = absurd (z e)
 numbered (refused why) num e z = (why, e, refl)
+
+number-alone : (r : Result (List ℕ × List ℕ)) → number r ≡ number (andThen r (λ a. done (a .1)))
+number-alone (done a) = refl
+number-alone (refused why) = refl
+
+-- what was written into 166 bytes: its MAC, the text and the MAC where the number is 0, and the refusal where it is another
+module _ (key m : List ℕ) {before after val : List ℕ} {num len : ℕ} (l : length before ≡ 166)
+    (w : TextAndMac (messageTextAndMac key m) before num len val after) where
+  pub answered-alone : Answered 8 (messageMac key m) num val
+  answered-alone =
+      let e = both-fit key m in
+      record {
+        number = rw (l, e .0) at (w .number) ∙ number-alone (messageTextAndMac key m) ∙ ap number (e .1);
+        value = rw (l, e .0, e .1) at (w .mac);
+      }
+
+  pub both-number : (num ≡ 0 → ⊥) → Refuses num (messageTextAndMac key m)
+  both-number z = numbered (messageTextAndMac key m) num (rw (l, both-fit key m .0) at (w .number)) z
+
+  pub both-zero : num ≡ 0 → (messageTextAndMac key m ≡ done (take len after, val)) × (len ≤ length after)
+  both-zero z = let e = both-fit key m .0 in decided (messageTextAndMac key m) (rw (l, e) at (w .number)) (rw (l, e) at (w .text)) (rw (l, e) at (w .mac)) (rw (l, e) at (w .memory))
+    where
+      decided : (r : Result (List ℕ × List ℕ)) → num ≡ number r → len ≡ length (textIn r) → val ≡ macIn r → after ≡ over (textIn r) before
+          → (r ≡ done (take len after, val)) × (len ≤ length after)
+      decided (done (t, v)) en el ev ea = (rw (ev, el, ea, take-append-seam t (drop (length t) before)), rw (el, ea, length-append) (omega arith))
+      decided (refused why) en el ev ea = absurd (not-zero why (sym en ∙ z))
+
+-- ---- what is left in lent memory
 
 -- a refusal is answered, and leaves lent memory as it was
 pub refused-both : {answer : Result (List ℕ × List ℕ)} {before : List ℕ} {num : ℕ} {r : TextMac}

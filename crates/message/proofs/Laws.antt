@@ -1,6 +1,6 @@
 -- Laws on a message's text that other crates cite: it has at most 166 characters, it is never empty, and it is the same for messages
 -- that agree on the listed fields.
-use borrow.Author.Tests.{le-leb, eqb-true}
+use borrow.Author.Tests.{eqb-true}
 use mathlib.Core.Path.{_≡_, refl, sym, ap, _∙_}
 use mathlib.Core.Bool.{true}
 use mathlib.Core.List.{List, [], _∷_, _++_, map}
@@ -10,7 +10,7 @@ use lib.ListN.{length, length-append}
 use Rattle.lent.specs.Choice.{between, all}
 use Rattle.lent.specs.Characters.{digit}
 use Rattle.lent.specs.declared.characters.Kind.the-variants.{Digits}
-use Rattle.lent.specs.Result.{Result, done, refused, lend}
+use Rattle.lent.specs.Result.{done}
 use Rattle.lent.proofs.Laws.{both-true, between-true}
 use Rattle.lent.proofs.Results.{then-done, same-done}
 use Rattle.cleaning.specs.Cleaning.{cleaned}
@@ -64,14 +64,6 @@ unfolding textOf
 text-cleaned m t e =
     let k = fields-of m t e in
     ap cleaned (sym (k .2)) ∙ cleaned-again (joined (map shownField (listedOnly (k .0)))) ∙ k .2
-
--- it has room in 166 bytes
-pub text-fits : (m : List ℕ) → lend 166 (messageText m) ≡ messageText m
-text-fits m = fits (messageText m) refl
-  where
-    fits : (r : Result (List ℕ)) → messageText m ≡ r → lend 166 r ≡ r
-    fits (done t) e = simp (le-leb (length t) 166 (at-most-166 m t e))
-    fits (refused why) e = refl
 
 -- a text of digits that is not empty is not empty when it is cleaned, whatever is joined to it
 digits-some : (s : List ℕ) (ss : List (List ℕ)) → all digit s ≡ true → 0 < length s → 0 < length (cleaned (joined (s ∷ ss)))

@@ -1,2 +1,2 @@
 mod Lines
-mod Edges
+mod Laws

@@ -1,69 +1,46 @@
--- Laws on the lines as they are appended, and on what the program answers in each case.
-use borrow.Author.Tests.{le-leb, lt-leb}
-use mathlib.Core.Path.{_≡_, _∙_}
-use mathlib.Core.List.{List, [], _∷_, _++_, append-assoc}
-use Prim.Native.Nat.{ℕ, _+_, _<_, _≤_}
+-- Laws on the lines as they are made, and on their lengths.
+use mathlib.Core.Path.{_≡_, refl, ap, _∙_}
+use mathlib.Core.List.{List, [], _∷_, _++_}
+use Prim.Native.Nat.{ℕ, _+_, _≤_, _<_}
+use native.Mathlib.Nat.{div-one}
+use native.Mathlib.Numerals.{add-one}
 use native.Mathlib.Omega.{arith}
 use lib.Dec.{ltb}
-use lib.ListN.{length, take, drop, length-append}
-use Rattle.lent.specs.Appended.{Appended}
-use Rattle.lent.specs.Result.{done, refused, andThen}
+use lib.ListN.{length, getD, take, length-append}
+use lib.Seq.{take-suc}
+use Rattle.lent.specs.Characters.{digitOf, twoDigits}
 use Rattle.lent.specs.Words.{toBase}
-use Rattle.lent.proofs.Appending.{appended-end, appended-front, appended-length, both-appended}
+use Rattle.lent.proofs.Appending.{appended-front}
 use Rattle.lent.proofs.Laws.{cases}
 use Rattle.keyentry.specs.Hexadecimal.{textOf}
-use Rattle.message.specs.Text.{messageText}
-use Rattle.mac.specs.Mac.{textMac}
-use Rattle.mac.proofs.Laws.{mac-of-text}
-use Rattle.messagemac.specs.Output.{line, decimal, refusedWord, lines, answer, Made}
+use Rattle.message.specs.Gathered.{Appends}
+use Rattle.messagemac.specs.Output.{line, decimal, refusedWord, Made}
 
--- ---- lines
+-- lines that fit are made
+pub made : {v before after : List ℕ} {r : ℕ} → length before ≡ 184 → length v ≤ 184 → Appends v before after 0 r → Made v after r
+made l h p = let a = p (omega arith) in (appended-front a (omega arith), omega (arith, a .end))
 
-decimal-short : (n : ℕ) → length (decimal n) ≤ 2
+pub refusal-fits : (n : ℕ) → length (line (refusedWord ++ decimal n)) ≤ 184
 unfolding decimal toBase
-decimal-short n = cases (ltb n 10) (λ t. simp t (omega arith)) (λ f. simp f (omega arith))
+refusal-fits n = simp length-append (cases (ltb n 10) (λ t. simp t (omega arith)) (λ f. simp f (omega arith)))
 
--- the word, the number, a line feed
-pub refusal-made : (num : ℕ) {a b c d : List ℕ} {n k r : ℕ} → length a ≡ 184
-    → Appended refusedWord a b 0 n → Appended (decimal num) b c n k → Appended (10 ∷ []) c d k r → Made (lines (refused num)) d r
-unfolding lines
-refusal-made num {a} {r = r} l p q f =
-    let short = decimal-short num in
-    let long = length-append refusedWord (decimal num) in
-    let whole = length-append (refusedWord ++ decimal num) (10 ∷ []) in
-    let both = both-appended {n = 0} (omega arith) (both-appended {n = 0} (omega arith) p q) f in
-    (appended-front both (omega arith), omega (arith, appended-end both (omega arith)))
+pub one-digit : (n : ℕ) → n < 10 → getD (twoDigits n) 1 0 ≡ digitOf n
+unfolding toBase
+one-digit n h = rw div-one (omega arith)
 
--- a text and a line feed
-pub line-made : {text a b c : List ℕ} {n k : ℕ} → length a ≡ 184 → length text ≤ 166
-    → Appended text a b 0 n → Appended (10 ∷ []) b c n k → (take k c ≡ line text) × (k ≡ length text + 1) × (length c ≡ 184)
-line-made {text} l s p q =
-    let long = length-append text (10 ∷ []) in
-    let both = both-appended {n = 0} (omega arith) p q in
-    (appended-front both (omega arith), omega (arith, appended-end both (omega arith)), omega (arith, appended-length both (omega arith)))
+text-append : (letter : ℕ) (s t : List ℕ) → textOf letter (s ++ t) ≡ textOf letter s ++ textOf letter t
+unfolding textOf
+text-append letter [] t = refl
+text-append letter (b ∷ s) t = rw (text-append letter s t)
 
--- then the digits and a line feed
-pub two-lines-made : (text mac : List ℕ) {front d e : List ℕ} {k m r : ℕ} → length text ≤ 166 → length d ≡ 184
-    → front ≡ line text → k ≡ length text + 1 → (m ≡ k + 16) × (take m d ≡ front ++ textOf 65 mac) → Appended (10 ∷ []) d e m r
-    → Made (lines (done (text, mac))) e r
-unfolding lines
-two-lines-made text mac s l first end digits q = (
-  appended-front q (omega arith) ∙ rw (digits .1, first, append-assoc (line text) (textOf 65 mac) (10 ∷ [])),
-  omega (arith, appended-end q (omega arith)),
-)
+-- the digits of one more byte
+pub digits-next : (mac : List ℕ) (i : ℕ) → i < length mac → textOf 65 (take i mac) ++ textOf 65 (getD mac i 0 ∷ []) ≡ textOf 65 (take (i + 1) mac)
+digits-next mac i h = rw (add-one i, take-suc mac i 0 h, text-append 65 (take i mac) (getD mac i 0 ∷ []))
 
--- ---- answers
+text-length : (letter : ℕ) (s : List ℕ) → length (textOf letter s) ≡ length s + length s
+unfolding textOf
+text-length letter [] = refl
+text-length letter (b ∷ s) = omega (arith, text-length letter s)
 
-pub short-answer : (input : List ℕ) → length input < 8 → answer input ≡ refused 6
-unfolding answer
-short-answer input h = simp (lt-leb _ _ h)
-
-module _ (input : List ℕ) (whole : 8 ≤ length input) where
-  pub refused-answer : (n : ℕ) → messageText (drop 8 input) ≡ refused n → answer input ≡ refused n
-  unfolding answer
-  refused-answer n e = simp (le-leb _ _ whole, e)
-
-  -- the MAC of the message is that of its text
-  pub text-answer : (t : List ℕ) → messageText (drop 8 input) ≡ done t → answer input ≡ andThen (textMac (take 8 input) t) (λ mac. done (t, mac))
-  unfolding answer
-  text-answer t e = simp (le-leb _ _ whole, e, mac-of-text (take 8 input) (drop 8 input) t e)
+pub two-lines-fit : (text mac : List ℕ) → length text ≤ 166 → length mac ≡ 8 → length (line text ++ line (textOf 65 mac)) ≤ 184
+two-lines-fit text mac h e = simp (length-append, text-length) (omega arith)

@@ -5,12 +5,11 @@ use Prim.Native.Nat.{ℕ, _≤_}
 use lib.Dec.{leb, ltb}
 use lib.ListN.{length, take, drop}
 use Rattle.lent.specs.Choice.{pick}
-use Rattle.lent.specs.Characters.{digitOf}
-use Rattle.lent.specs.Refusals.{size}
-use Rattle.lent.specs.Result.{Result, done, refused, require, andThen}
+use Rattle.lent.specs.Characters.{digitOf, twoDigits}
+use Rattle.lent.specs.Refusals.{size, numberOf}
+use Rattle.lent.specs.Result.{Result, done, refused, require}
 use Rattle.keyentry.specs.Hexadecimal.{textOf}
-use Rattle.message.specs.Text.{twoDigits, messageText}
-use Rattle.mac.specs.Mac.{messageMac}
+use Rattle.mac.specs.Mac.{messageTextAndMac}
 
 -- a line: a text, and the line feed that ends it
 abbrev pub line : List ℕ → List ℕ
@@ -27,13 +26,11 @@ refusedWord = 114 ∷ 101 ∷ 102 ∷ 117 ∷ 115 ∷ 101 ∷ 100 ∷ 32 ∷ []
 -- the text and the MAC in capital hexadecimal digits, each on a line; or the refusal on one line
 unfoldable pub lines : Result (List ℕ × List ℕ) → List ℕ
 lines (done (text, mac)) = line text ++ line (textOf 65 mac)
-lines (refused n) = line (refusedWord ++ decimal n)
+lines (refused why) = line (refusedWord ++ decimal (numberOf why))
 
--- the MAC text and the MAC of the message behind the key: 6 where there are fewer than eight bytes, then the message's own refusals
+-- the MAC text and the MAC of the message after the key: 6 if there are fewer than eight bytes, then the message's own refusals
 unfoldable pub answer : List ℕ → Result (List ℕ × List ℕ)
-answer input =
-    require (leb 8 (length input)) size
-    (andThen (messageText (drop 8 input)) (λ text. andThen (messageMac (take 8 input) (drop 8 input)) (λ mac. done (text, mac))))
+answer input = require (leb 8 (length input)) size (messageTextAndMac (take 8 input) (drop 8 input))
 
 -- what is written
 abbrev pub output : List ℕ → List ℕ

@@ -1,6 +1,17 @@
 -- `output` meets its contract.
 use borrow.Author.Needs.{needs}
-use Rattle.messagemac.proofs.Lines.{short-answer}
+use mathlib.Core.Path.{refl, sym}
+use mathlib.Core.List.{List}
+use Prim.Native.Nat.{ℕ, _≤_}
+use native.Mathlib.Omega.{arith}
+use lib.ListN.{length, take, drop, replicate}
+use lib.Seq.{length-take-le}
+use Rattle.lent.proofs.Lists.{part-rest}
+use Rattle.mac.specs.Mac.{messageTextAndMac, TextAndMac}
+use Rattle.mac.proofs.Laws.{both-number, both-zero}
+use Rattle.messagemac.specs.Output.{lines}
+use Rattle.messagemac.proofs.Lines.{made, refusal-fits, two-lines-fit}
+use Rattle.messagemac.proofs.Laws.{short-answer, whole-answer, refused-output}
 use Rattle.messagemac.proofs.output.output.Statement.{statement}
 use Rattle.messagemac.proofs.output.output.Tie as tie
 
@@ -11,20 +22,86 @@ same-length : tie.Need-same-length
 same-length c = search needs
 
 returns : tie.Need-returns
+unfolding lines
 returns c =
-    rw (short-answer (c .before .before .before .before .before .before .before .args .input .now) (c .before .before .before .before .if1 .taken))
-    (c .before .before .refusal .ensures)
+    rw (short-answer (c .before .before .before .before .before .before .before .args .input .now) (c .before .before .before .before .if1 .taken)) (made (omega arith) (refusal-fits 6) (c .before .before .refusal .ensures))
 
-message-output-requires : tie.Need-message-output-requires
-message-output-requires c κs = search needs
+slice-aggregate-message-text-and-mac : tie.Need-slice-aggregate-message-text-and-mac
+slice-aggregate-message-text-and-mac c = sym (length-take-le 8 (c .before .before .before .before .args .input .now) (omega arith))
+
+sub-message-text-and-mac : tie.Need-sub-message-text-and-mac
+sub-message-text-and-mac c = search needs
+
+part-message-text-and-mac-start : tie.Need-part-message-text-and-mac-start
+part-message-text-and-mac-start c = search needs
+
+part-message-text-and-mac-end : tie.Need-part-message-text-and-mac-end
+part-message-text-and-mac-end c = search needs
+
+slice-aggregate-message-text-and-mac-2 : tie.Need-slice-aggregate-message-text-and-mac-2
+slice-aggregate-message-text-and-mac-2 c = search needs
+
+message-text-and-mac-requires : tie.Need-message-text-and-mac-requires
+message-text-and-mac-requires c κs = search needs
+
+refusal-requires-2 : tie.Need-refusal-requires-2
+refusal-requires-2 c κs = search needs
 
 same-length-2 : tie.Need-same-length-2
 same-length-2 c = search needs
 
+-- the message's text and its MAC, in 166 bytes
+abbrev input : tie.After-message-text-and-mac → List ℕ
+input c = c .before .before .before .before .before .before .before .args .input .now
+
+both : (c : tie.After-message-text-and-mac) → let w = c .message-text-and-mac in
+    TextAndMac (messageTextAndMac (take 8 (input c)) (drop 8 (input c))) (replicate 166 0) (w .result .number) (w .result .length) (w .result .mac) (w .last .1 .1 .0)
+both c = rw (part-rest 8 (input c)) at (c .message-text-and-mac .ensures)
+
 returns-2 : tie.Need-returns-2
-returns-2 c = search needs
+returns-2 c =
+    let d = c .before .before .before .before .before .before in
+    rw (refused-output (input d) (omega arith) (both-number _ _ refl (both d) (c .before .before .before .before .if2 .taken))) (made (omega arith) (refusal-fits _) (c .before .before .refusal2 .ensures))
+
+array-share-prefix-room : tie.Need-array-share-prefix-room
+array-share-prefix-room c = both-zero _ _ refl (both (c .before .before .before)) (c .before .if2 .left) .1
+
+slice-aggregate-two-lines : tie.Need-slice-aggregate-two-lines
+slice-aggregate-two-lines c = sym (length-take-le _ _ (both-zero _ _ refl (both (c .before .before .before .before)) (c .before .before .if2 .left) .1))
+
+two-lines-requires : tie.Need-two-lines-requires
+two-lines-requires c κs = search needs
+
+same-length-3 : tie.Need-same-length-3
+same-length-3 c = search needs
+
+returns-3 : tie.Need-returns-3
+unfolding lines
+returns-3 c =
+    let d = c .before .before .before .before .before .before .before .before in
+    let k = both-zero _ _ refl (both d) (c .before .before .before .before .before .before .if2 .left) in
+    let text = take (d .message-text-and-mac .result .length) (d .message-text-and-mac .last .1 .1 .0) in
+    let short : length text ≤ 166 = rw (length-take-le _ _ (k .1)) (omega (arith, k .1)) in
+    rw (whole-answer (input d) (omega arith), k .0) (made (omega arith) (two-lines-fit text (d .message-text-and-mac .result .mac) short (search needs)) (c .before .before .two-lines .ensures))
 
 pub output-spec : {M : Type 1} → statement M
 output-spec =
     tie.close
-    (tie.spec refusal-requires same-length returns message-output-requires same-length-2 returns-2)
+    (tie.spec
+    refusal-requires
+    same-length
+    returns
+    slice-aggregate-message-text-and-mac
+    sub-message-text-and-mac
+    part-message-text-and-mac-start
+    part-message-text-and-mac-end
+    slice-aggregate-message-text-and-mac-2
+    message-text-and-mac-requires
+    refusal-requires-2
+    same-length-2
+    returns-2
+    array-share-prefix-room
+    slice-aggregate-two-lines
+    two-lines-requires
+    same-length-3
+    returns-3)

@@ -1,7 +1,6 @@
 -- `refusal` meets its contract.
+use Rattle.message.proofs.Results.{both-appends}
 use borrow.Author.Needs.{needs}
-use native.Mathlib.Omega.{arith}
-use Rattle.messagemac.proofs.Lines.{refusal-made}
 use Rattle.messagemac.proofs.output.refusal.Statement.{statement}
 use Rattle.messagemac.proofs.output.refusal.Tie as tie
 
@@ -25,10 +24,8 @@ same-length c = search needs
 
 returns : tie.Need-returns
 returns c =
-    let b = c .before .before .before .before .before .before .before in
-    let d = b .before .before .before .before in
-    let a = d .before .before .before .before in
-    refusal-made (a .args .number) (omega arith) (d .append .ensures) (b .append-decimal .ensures) (c .before .before .append2 .ensures)
+    let d = c .before .before .before .before .before .before .before in
+    both-appends (both-appends (d .before .before .before .before .append .ensures) (d .append-decimal .ensures)) (c .before .before .append2 .ensures)
 
 pub refusal-spec : {M : Type 1} → statement M
 refusal-spec =
