@@ -13,32 +13,14 @@ use Rattle.cleaning.proofs.Laws.{clean-done}
 use Rattle.cleaning.proofs.clean.Statement.{statement}
 use Rattle.cleaning.proofs.clean.Tie as tie
 
-refused-requires : tie.Need-refused-requires
-refused-requires c κs = search needs
-
 returns : tie.Need-returns
 unfolding cleanText
 returns c =
     let long : 1024 < length (c .before .before .before .before .args .text .now) = omega arith in
     refused-answer (c .refused .ensures) (size, refl, simp (lt-leb _ _ long))
 
-slice-aggregate-write-cleaned : tie.Need-slice-aggregate-write-cleaned
-slice-aggregate-write-cleaned c = search needs
-
-write-cleaned-requires : tie.Need-write-cleaned-requires
-write-cleaned-requires c κs = search needs
-
-array-share-prefix-room : tie.Need-array-share-prefix-room
-array-share-prefix-room c = search needs
-
 slice-aggregate-lend : tie.Need-slice-aggregate-lend
 slice-aggregate-lend c = sym (length-take-le _ _ (c .before .before .write-cleaned .ensures .0))
-
-lend-requires : tie.Need-lend-requires
-lend-requires c κs = search needs
-
-same-length : tie.Need-same-length
-same-length c = search needs
 
 returns-2 : tie.Need-returns-2
 returns-2 c =
@@ -50,13 +32,5 @@ returns-2 c =
 pub clean-spec : {M : Type 1} → statement M
 clean-spec =
     tie.close
-    (tie.spec
-    refused-requires
-    returns
-    slice-aggregate-write-cleaned
-    write-cleaned-requires
-    array-share-prefix-room
-    slice-aggregate-lend
-    lend-requires
-    same-length
-    returns-2)
+    (tie.spec (λ c κs. search needs) returns (λ c. search needs) (λ c κs. search needs) (λ c. search needs)
+    slice-aggregate-lend (λ c κs. search needs) (λ c. search needs) returns-2)

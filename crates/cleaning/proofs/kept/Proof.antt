@@ -8,15 +8,9 @@ use Rattle.cleaning.specs.Cleaning.{kept}
 use Rattle.cleaning.proofs.kept.Statement.{statement}
 use Rattle.cleaning.proofs.kept.Tie as tie
 
-between-requires : tie.Need-between-requires
-between-requires c κs = search needs
-
 returns : tie.Need-returns
 unfolding kept
 returns c = simp (sym (c .before .between .ensures) ∙ c .if1 .taken)
-
-is-digit-requires : tie.Need-is-digit-requires
-is-digit-requires c κs = search needs
 
 returns-2 : tie.Need-returns-2
 unfolding kept
@@ -52,4 +46,4 @@ returns-5 c =
 pub kept-spec : {M : Type 1} → statement M
 kept-spec =
     tie.close
-    (tie.spec between-requires returns is-digit-requires returns-2 returns-3 returns-4 returns-5)
+    (tie.spec (λ c κs. search needs) returns (λ c κs. search needs) returns-2 returns-3 returns-4 returns-5)

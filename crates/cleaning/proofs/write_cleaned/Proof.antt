@@ -53,18 +53,6 @@ loop-holds c =
       room = refl;
     }
 
-shared-slice-read-capitalized : tie.Need-shared-slice-read-capitalized Inv-loop μ-loop
-shared-slice-read-capitalized c = search needs
-
-capitalized-requires : tie.Need-capitalized-requires Inv-loop μ-loop
-capitalized-requires c κs = search needs
-
-add-i : tie.Need-add-i Inv-loop μ-loop
-add-i c = search needs
-
-loop-less : tie.Need-loop-less Inv-loop μ-loop
-loop-less c = search needs
-
 loop-again : tie.Need-loop-again Inv-loop μ-loop
 loop-again c =
     let l = c .before .before .before .before .loop in
@@ -82,23 +70,8 @@ loop-again c =
       room = l .inv .room;
     }
 
-kept-requires : tie.Need-kept-requires Inv-loop μ-loop
-kept-requires c κs = search needs
-
-slice-write-out : tie.Need-slice-write-out Inv-loop μ-loop
-slice-write-out c = search needs
-
-add-n : tie.Need-add-n Inv-loop μ-loop
-add-n c = search needs
-
 slice-write-out-2 : tie.Need-slice-write-out-2 Inv-loop μ-loop
 slice-write-out-2 c = simp length-set (omega arith)
-
-add-n-2 : tie.Need-add-n-2 Inv-loop μ-loop
-add-n-2 c = search needs
-
-loop-less-2 : tie.Need-loop-less-2 Inv-loop μ-loop
-loop-less-2 c = search needs
 
 loop-again-2 : tie.Need-loop-again-2 Inv-loop μ-loop
 loop-again-2 c =
@@ -122,9 +95,6 @@ loop-again-2 c =
       room = simp length-set (omega arith);
     }
 
-loop-less-3 : tie.Need-loop-less-3 Inv-loop μ-loop
-loop-less-3 c = search needs
-
 loop-again-3 : tie.Need-loop-again-3 Inv-loop μ-loop
 loop-again-3 c =
     let l = c .before .before .before .before .before .before .loop in
@@ -144,9 +114,6 @@ loop-again-3 c =
       room = l .inv .room;
     }
 
-same-length : tie.Need-same-length Inv-loop μ-loop
-same-length c = search needs
-
 returns : tie.Need-returns Inv-loop μ-loop
 unfolding pass
 returns c =
@@ -160,23 +127,6 @@ returns c =
 pub write-cleaned-spec : {M : Type 1} → statement M
 write-cleaned-spec =
     tie.close
-    (tie.spec
-    Inv-loop
-    μ-loop
-    loop-holds
-    shared-slice-read-capitalized
-    capitalized-requires
-    add-i
-    loop-less
-    loop-again
-    kept-requires
-    slice-write-out
-    add-n
-    slice-write-out-2
-    add-n-2
-    loop-less-2
-    loop-again-2
-    loop-less-3
-    loop-again-3
-    same-length
-    returns)
+    (tie.spec Inv-loop μ-loop loop-holds (λ c. search needs) (λ c κs. search needs) (λ c. search needs)
+    (λ c. search needs) loop-again (λ c κs. search needs) (λ c. search needs) (λ c. search needs) slice-write-out-2
+    (λ c. search needs) (λ c. search needs) loop-again-2 (λ c. search needs) loop-again-3 (λ c. search needs) returns)

@@ -4,18 +4,9 @@ use Rattle.mac.specs.Mac.{macOf}
 use Rattle.mac.proofs.mac_of.Statement.{statement}
 use Rattle.mac.proofs.mac_of.Tie as tie
 
-word-of-requires : tie.Need-word-of-requires
-word-of-requires c κs = search needs
-
-chained-requires : tie.Need-chained-requires
-chained-requires c κs = search needs
-
-block-of-requires : tie.Need-block-of-requires
-block-of-requires c κs = search needs
-
 returns : tie.Need-returns
 unfolding macOf
 returns c = rw (← c .before .before .word-of .ensures, ← c .before .chained .ensures) (c .block-of .ensures)
 
 pub mac-of-spec : {M : Type 1} → statement M
-mac-of-spec = tie.close (tie.spec word-of-requires chained-requires block-of-requires returns)
+mac-of-spec = tie.close (tie.spec (λ c κs. search needs) (λ c κs. search needs) (λ c κs. search needs) returns)

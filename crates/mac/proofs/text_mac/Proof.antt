@@ -17,21 +17,9 @@ use borrow.Author.Needs.{needs}
 use Rattle.mac.proofs.text_mac.Statement.{statement}
 use Rattle.mac.proofs.text_mac.Tie as tie
 
-refused-block-requires : tie.Need-refused-block-requires
-refused-block-requires c κs = search needs
-
 returns : tie.Need-returns
 unfolding textMac
 returns c = refused-block (c .refused-block .ensures) (size, refl, simp (ne-eqb _ _ (c .before .if1 .taken)))
-
-slice-aggregate-clean : tie.Need-slice-aggregate-clean
-slice-aggregate-clean c = search needs
-
-clean-requires : tie.Need-clean-requires
-clean-requires c κs = search needs
-
-refused-block-requires-2 : tie.Need-refused-block-requires-2
-refused-block-requires-2 c κs = search needs
 
 returns-2 : tie.Need-returns-2
 unfolding textMac
@@ -48,9 +36,6 @@ text c = take (c .before .before .clean .result .length) (c .before .before .cle
 cleaned : (c : tie.Else2) → (cleanText (c .before .before .before .before .before .before .before .args .text .now) ≡ done (text c)) × (c .before .before .clean .result .length ≤ length (c .before .before .clean .last .1 .0))
 cleaned c = written-done (c .before .before .clean .ensures) (c .if2 .left)
 
-refused-block-requires-3 : tie.Need-refused-block-requires-3
-refused-block-requires-3 c κs = search needs
-
 returns-3 : tie.Need-returns-3
 unfolding textMac cleanedMac
 returns-3 c =
@@ -64,9 +49,6 @@ array-share-prefix-room c = cleaned (c .before) .1
 
 slice-aggregate-mac-of : tie.Need-slice-aggregate-mac-of
 slice-aggregate-mac-of c = sym (length-take-le _ _ (cleaned (c .before .before) .1))
-
-mac-of-requires : tie.Need-mac-of-requires
-mac-of-requires c κs = search needs
 
 -- it is not empty
 mac-is : (c : tie.Else3) → let a = c .before .before .before .before .before .before .before .before .args in textMac (a .key .now) (a .text .now) ≡ done (macOf (a .key .now) (text (c .before)))
@@ -82,16 +64,6 @@ returns-4 c = rw (mac-is (c .before .before)) (c .mac-of .ensures)
 pub text-mac-spec : {M : Type 1} → statement M
 text-mac-spec =
     tie.close
-    (tie.spec
-    refused-block-requires
-    returns
-    slice-aggregate-clean
-    clean-requires
-    refused-block-requires-2
-    returns-2
-    refused-block-requires-3
-    returns-3
-    array-share-prefix-room
-    slice-aggregate-mac-of
-    mac-of-requires
+    (tie.spec (λ c κs. search needs) returns (λ c. search needs) (λ c κs. search needs) (λ c κs. search needs)
+    returns-2 (λ c κs. search needs) returns-3 array-share-prefix-room slice-aggregate-mac-of (λ c κs. search needs)
     returns-4)

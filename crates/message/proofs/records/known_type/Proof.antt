@@ -31,17 +31,11 @@ returns : tie.Need-returns
 unfolding knownType toBase
 returns c = simp (ne-eqb _ _ (c .if1 .taken))
 
-byte-at-requires : tie.Need-byte-at-requires
-byte-at-requires c κs = search needs
-
 returns-2 : tie.Need-returns-2
 unfolding knownType toBase
 returns-2 c =
     let s = c .before .before .before .before .args .body .now in
     rw (starts s, ← c .before .byte-at .ensures) (simp (eq-eqb _ _ (c .before .before .if1 .left), ne-eqb 48 _ (λ z. c .if2 .taken (sym z))))
-
-byte-at-requires-2 : tie.Need-byte-at-requires-2
-byte-at-requires-2 c κs = search needs
 
 returns-3 : tie.Need-returns-3
 unfolding knownType toBase
@@ -75,13 +69,5 @@ returns-7 c =
 pub known-type-spec : {M : Type 1} → statement M
 known-type-spec =
     tie.close
-    (tie.spec
-    returns
-    byte-at-requires
-    returns-2
-    byte-at-requires-2
-    returns-3
-    returns-4
-    returns-5
-    returns-6
+    (tie.spec returns (λ c κs. search needs) returns-2 (λ c κs. search needs) returns-3 returns-4 returns-5 returns-6
     returns-7)

@@ -13,30 +13,9 @@ use borrow.Author.Needs.{needs}
 use Rattle.message.proofs.records.read_record.Statement.{statement}
 use Rattle.message.proofs.records.read_record.Tie as tie
 
-little-endian-requires : tie.Need-little-endian-requires
-little-endian-requires c κs = search needs
-
-add-end : tie.Need-add-end
-add-end c = search needs
-
 returns : tie.Need-returns
 unfolding recordField
 returns c = simp (lt-leb _ _ (rw (c .before .little-endian .ensures .0) at (c .if1 .taken)))
-
-little-endian-requires-2 : tie.Need-little-endian-requires-2
-little-endian-requires-2 c κs = search needs
-
-sub-refusal : tie.Need-sub-refusal
-sub-refusal c = search needs
-
-part-refusal-start : tie.Need-part-refusal-start
-part-refusal-start c = search needs
-
-part-refusal-end : tie.Need-part-refusal-end
-part-refusal-end c = search needs
-
-refusal-requires : tie.Need-refusal-requires
-refusal-requires c κs = search needs
 
 -- the record is whole
 whole : (c : tie.Else1) → let s = c .before .before .before .args .rest .now in leb (4 + bodySize s) (length s) ≡ true
@@ -71,14 +50,5 @@ returns-3 c =
 pub read-record-spec : {M : Type 1} → statement M
 read-record-spec =
     tie.close
-    (tie.spec
-    little-endian-requires
-    add-end
-    returns
-    little-endian-requires-2
-    sub-refusal
-    part-refusal-start
-    part-refusal-end
-    refusal-requires
-    returns-2
-    returns-3)
+    (tie.spec (λ c κs. search needs) (λ c. search needs) returns (λ c κs. search needs) (λ c. search needs)
+    (λ c. search needs) (λ c. search needs) (λ c κs. search needs) returns-2 returns-3)

@@ -6,25 +6,13 @@ use borrow.Author.Needs.{needs}
 use Rattle.message.proofs.records.refusal.Statement.{statement}
 use Rattle.message.proofs.records.refusal.Tie as tie
 
-in-order-requires : tie.Need-in-order-requires
-in-order-requires c κs = search needs
-
 returns : tie.Need-returns
 unfolding checkedField
 returns c = simp (sym (c .before .in-order .ensures) ∙ not-true _ (c .if1 .taken))
 
-rule-of-requires : tie.Need-rule-of-requires
-rule-of-requires c κs = search needs
-
-formed-requires : tie.Need-formed-requires
-formed-requires c κs = search needs
-
 returns-2 : tie.Need-returns-2
 unfolding checkedField
 returns-2 c = simp (sym (c .before .before .before .before .in-order .ensures) ∙ not-false _ (c .before .before .before .if1 .left), ← c .before .before .rule-of .ensures, sym (c .before .formed .ensures) ∙ not-true _ (c .if2 .taken))
-
-known-type-requires : tie.Need-known-type-requires
-known-type-requires c κs = search needs
 
 returns-3 : tie.Need-returns-3
 unfolding checkedField
@@ -51,12 +39,5 @@ returns-4 c =
 pub refusal-spec : {M : Type 1} → statement M
 refusal-spec =
     tie.close
-    (tie.spec
-    in-order-requires
-    returns
-    rule-of-requires
-    formed-requires
-    returns-2
-    known-type-requires
-    returns-3
-    returns-4)
+    (tie.spec (λ c κs. search needs) returns (λ c κs. search needs) (λ c κs. search needs) returns-2
+    (λ c κs. search needs) returns-3 returns-4)

@@ -12,8 +12,5 @@ returns c = let a = c .before .args in sym (take-all (a .count) (a .body .now) (
 slice-aggregate-result : tie.Need-slice-aggregate-result
 slice-aggregate-result c = sym (length-take-le _ _ (search needs))
 
-returns-2 : tie.Need-returns-2
-returns-2 c = search needs
-
 pub first-spec : {M : Type 1} → statement M
-first-spec = tie.close (tie.spec returns slice-aggregate-result returns-2)
+first-spec = tie.close (tie.spec returns slice-aggregate-result (λ c. search needs))

@@ -36,15 +36,9 @@ Inv-loop message raw₀ n₀ at₀ place₀ raw n at place = Turn message raw n 
 abbrev μ-loop : tie.MeasureT-loop
 μ-loop message raw₀ n₀ at₀ place₀ raw n at place = length message - at
 
-refused-requires : tie.Need-refused-requires Inv-loop μ-loop
-refused-requires c κs = search needs
-
 returns : tie.Need-returns Inv-loop μ-loop
 unfolding gathered messageFields
 returns c = refused-gathered _ (c .refused .ensures) (size, refl, simp (lt-leb _ _ (c .before .if1 .taken)))
-
-refused-requires-2 : tie.Need-refused-requires-2 Inv-loop μ-loop
-refused-requires-2 c κs = search needs
 
 returns-2 : tie.Need-returns-2 Inv-loop μ-loop
 unfolding gathered messageFields
@@ -63,21 +57,6 @@ loop-holds c =
       rest = simp (le-leb _ _ fits, lt-ltb _ _ some);
     }
 
-sub-rest : tie.Need-sub-rest Inv-loop μ-loop
-sub-rest c = search needs
-
-part-rest-start : tie.Need-part-rest-start Inv-loop μ-loop
-part-rest-start c = search needs
-
-part-rest-end : tie.Need-part-rest-end Inv-loop μ-loop
-part-rest-end c = search needs
-
-read-record-requires : tie.Need-read-record-requires Inv-loop μ-loop
-read-record-requires c κs = search needs
-
-enum-known-number : tie.Need-enum-known-number Inv-loop μ-loop
-enum-known-number c = search needs
-
 -- in a turn: the message, and the rest of it, which the next record starts
 abbrev whole : tie.In-loop Inv-loop μ-loop → List ℕ
 whole c = c .before .before .before .before .before .before .args .message .now
@@ -95,12 +74,6 @@ rest-some c = rw length-drop (omega arith)
 read-is : (c : tie.After-read-record Inv-loop μ-loop) → let s = rest (c .before .before) in readOf s (recordField (c .before .before .before .loop .place) s) ≡ c .read-record .result
 read-is c = sym (rw (lent-rest (c .before .before)) at (c .read-record .ensures))
 
-refused-requires-3 : tie.Need-refused-requires-3 Inv-loop μ-loop
-refused-requires-3 c κs = search needs
-
-same-length : tie.Need-same-length Inv-loop μ-loop
-same-length c = search needs
-
 returns-3 : tie.Need-returns-3 Inv-loop μ-loop
 returns-3 c =
     let d = c .before .before .before .before .before .before in
@@ -110,9 +83,6 @@ returns-3 c =
     refused-gathered _ (c .refused3 .ensures)
     (rw (← l .inv .rest, records-next s (l .place) (rest-some d)) (refuses-then (λ fs. done (take (l .n) (l .raw) ++ spaced fs)) q))
 
-enum-known-field : tie.Need-enum-known-field Inv-loop μ-loop
-enum-known-field c = search needs
-
 -- and is not refused
 read : (c : tie.After-known-told2 Inv-loop μ-loop) → let d = c .before .before .before .before .before in let g = c .before .field .given .0 in
     Sound (d .before .loop .place) (rest d) × (g .0 ≡ fieldOf (rest d) .number) × (g .1 .0 ≡ 4 + bodySize (rest d))
@@ -121,9 +91,6 @@ read c = let d = c .before .before .before .before .before in read-field (d .bef
 -- it ends within the message
 within : (c : tie.After-known-told2 Inv-loop μ-loop) → c .before .before .before .before .before .before .loop .at + c .before .field .given .0 .1 .0 ≤ length (whole (c .before .before .before .before .before))
 within c = omega (arith, read c .0 .whole, read c .2, length-drop (c .before .before .before .before .before .before .loop .at) (whole (c .before .before .before .before .before)))
-
-rule-of-requires : tie.Need-rule-of-requires Inv-loop μ-loop
-rule-of-requires c κs = search needs
 
 sub-append-field : tie.Need-sub-append-field Inv-loop μ-loop
 sub-append-field c = omega (arith, read (c .before .before) .2)
@@ -144,9 +111,6 @@ field-is c =
     let r = read (c .before .before) in
     let size : c .before .before .before .field .given .0 .1 .0 - 4 ≡ bodySize (rest d) = omega (arith, r .2) in
     rw (c .rule-of .ensures, r .1, lent-rest d, size)
-
-append-field-requires : tie.Need-append-field-requires Inv-loop μ-loop
-append-field-requires c κs = search needs
 
 add-at : tie.Need-add-at Inv-loop μ-loop
 add-at c = omega (arith, within (c .before .before .before .before .before .before))
@@ -177,9 +141,6 @@ loop-again c =
           ∙ (rw (records-next s (l .place) (rest-some d), a .field) at (l .inv .rest)));
     }
 
-same-length-2 : tie.Need-same-length-2 Inv-loop μ-loop
-same-length-2 c = search needs
-
 returns-4 : tie.Need-returns-4 Inv-loop μ-loop
 returns-4 c =
     let l = c .before .loop in
@@ -190,30 +151,8 @@ returns-4 c =
 pub gather-spec : {M : Type 1} → statement M
 gather-spec =
     tie.close
-    (tie.spec
-    Inv-loop
-    μ-loop
-    refused-requires
-    returns
-    refused-requires-2
-    returns-2
-    loop-holds
-    sub-rest
-    part-rest-start
-    part-rest-end
-    read-record-requires
-    enum-known-number
-    refused-requires-3
-    same-length
-    returns-3
-    enum-known-field
-    rule-of-requires
-    sub-append-field
-    part-append-field-start
-    part-append-field-end
-    append-field-requires
-    add-at
-    loop-less
-    loop-again
-    same-length-2
-    returns-4)
+    (tie.spec Inv-loop μ-loop (λ c κs. search needs) returns (λ c κs. search needs) returns-2 loop-holds
+    (λ c. search needs) (λ c. search needs) (λ c. search needs) (λ c κs. search needs) (λ c. search needs)
+    (λ c κs. search needs) (λ c. search needs) returns-3 (λ c. search needs) (λ c κs. search needs) sub-append-field
+    part-append-field-start part-append-field-end (λ c κs. search needs) add-at loop-less loop-again
+    (λ c. search needs) returns-4)

@@ -15,32 +15,14 @@ use Rattle.message.proofs.Results.{refuses-then}
 use Rattle.message.proofs.text.message_text.Statement.{statement}
 use Rattle.message.proofs.text.message_text.Tie as tie
 
-slice-aggregate-gather : tie.Need-slice-aggregate-gather
-slice-aggregate-gather c = search needs
-
-gather-requires : tie.Need-gather-requires
-gather-requires c κs = search needs
-
-refused-requires : tie.Need-refused-requires
-refused-requires c κs = search needs
-
 returns : tie.Need-returns
 returns c =
     let m = c .before .before .before .before .before .before .before .args .message .now in
     let q = answered-refused 0 (gathered m) (c .before .before .before .gather .ensures .0) (c .before .if1 .taken) in
     refused-answer (c .refused .ensures) (rw (text-gathered m) (refuses-then (λ g. done (cleaned g)) q))
 
-array-share-prefix-raw : tie.Need-array-share-prefix-raw
-array-share-prefix-raw c = search needs
-
 slice-aggregate-clean : tie.Need-slice-aggregate-clean
 slice-aggregate-clean c = let g = c .before .before .before .gather in sym (length-take-le (g .result .length) (g .last .1 .0) (omega arith))
-
-clean-requires : tie.Need-clean-requires
-clean-requires c κs = search needs
-
-same-length : tie.Need-same-length
-same-length c = search needs
 
 returns-2 : tie.Need-returns-2
 returns-2 c =
@@ -53,13 +35,5 @@ returns-2 c =
 pub message-text-spec : {M : Type 1} → statement M
 message-text-spec =
     tie.close
-    (tie.spec
-    slice-aggregate-gather
-    gather-requires
-    refused-requires
-    returns
-    array-share-prefix-raw
-    slice-aggregate-clean
-    clean-requires
-    same-length
-    returns-2)
+    (tie.spec (λ c. search needs) (λ c κs. search needs) (λ c κs. search needs) returns (λ c. search needs)
+    slice-aggregate-clean (λ c κs. search needs) (λ c. search needs) returns-2)

@@ -23,24 +23,6 @@ loop-holds : tie.Need-loop-holds Inv-loop μ-loop
 unfolding textOf
 loop-holds c = (omega arith, refl, λ room. nothing-appended)
 
-array-read-byte-text : tie.Need-array-read-byte-text Inv-loop μ-loop
-array-read-byte-text c = search needs
-
-byte-text-requires : tie.Need-byte-text-requires Inv-loop μ-loop
-byte-text-requires c κs = search needs
-
-slice-aggregate-append : tie.Need-slice-aggregate-append Inv-loop μ-loop
-slice-aggregate-append c = search needs
-
-append-requires : tie.Need-append-requires Inv-loop μ-loop
-append-requires c κs = search needs
-
-add-i : tie.Need-add-i Inv-loop μ-loop
-add-i c = search needs
-
-loop-less : tie.Need-loop-less Inv-loop μ-loop
-loop-less c = search needs
-
 loop-again : tie.Need-loop-again Inv-loop μ-loop
 loop-again c =
     let l = c .before .before .before .before .before .before .before .loop in
@@ -49,9 +31,6 @@ loop-again c =
       omega arith,
       rw (← digits-next mac (l .i) (omega arith)) (both-appends (l .inv .2) (rw (c .before .before .before .before .before .byte-text .ensures) at (c .before .before .append .ensures))),
     )
-
-same-length : tie.Need-same-length Inv-loop μ-loop
-same-length c = search needs
 
 returns : tie.Need-returns Inv-loop μ-loop
 returns c =
@@ -62,16 +41,5 @@ returns c =
 pub append-digits-spec : {M : Type 1} → statement M
 append-digits-spec =
     tie.close
-    (tie.spec
-    Inv-loop
-    μ-loop
-    loop-holds
-    array-read-byte-text
-    byte-text-requires
-    slice-aggregate-append
-    append-requires
-    add-i
-    loop-less
-    loop-again
-    same-length
-    returns)
+    (tie.spec Inv-loop μ-loop loop-holds (λ c. search needs) (λ c κs. search needs) (λ c. search needs)
+    (λ c κs. search needs) (λ c. search needs) (λ c. search needs) loop-again (λ c. search needs) returns)

@@ -15,12 +15,6 @@ use Rattle.messagemac.proofs.Laws.{short-answer, whole-answer, refused-
 use Rattle.messagemac.proofs.output.output.Statement.{statement}
 use Rattle.messagemac.proofs.output.output.Tie as tie
 
-refusal-requires : tie.Need-refusal-requires
-refusal-requires c κs = search needs
-
-same-length : tie.Need-same-length
-same-length c = search needs
-
 returns : tie.Need-returns
 unfolding lines
 returns c =
@@ -28,27 +22,6 @@ returns c =
 
 slice-aggregate-message-text-and-mac : tie.Need-slice-aggregate-message-text-and-mac
 slice-aggregate-message-text-and-mac c = sym (length-take-le 8 (c .before .before .before .before .args .input .now) (omega arith))
-
-sub-message-text-and-mac : tie.Need-sub-message-text-and-mac
-sub-message-text-and-mac c = search needs
-
-part-message-text-and-mac-start : tie.Need-part-message-text-and-mac-start
-part-message-text-and-mac-start c = search needs
-
-part-message-text-and-mac-end : tie.Need-part-message-text-and-mac-end
-part-message-text-and-mac-end c = search needs
-
-slice-aggregate-message-text-and-mac-2 : tie.Need-slice-aggregate-message-text-and-mac-2
-slice-aggregate-message-text-and-mac-2 c = search needs
-
-message-text-and-mac-requires : tie.Need-message-text-and-mac-requires
-message-text-and-mac-requires c κs = search needs
-
-refusal-requires-2 : tie.Need-refusal-requires-2
-refusal-requires-2 c κs = search needs
-
-same-length-2 : tie.Need-same-length-2
-same-length-2 c = search needs
 
 -- the message's text and its MAC, in 166 bytes
 abbrev input : tie.After-message-text-and-mac → List ℕ
@@ -69,12 +42,6 @@ array-share-prefix-room c = both-zero _ _ refl (both (c .before .before .before)
 slice-aggregate-two-lines : tie.Need-slice-aggregate-two-lines
 slice-aggregate-two-lines c = sym (length-take-le _ _ (both-zero _ _ refl (both (c .before .before .before .before)) (c .before .before .if2 .left) .1))
 
-two-lines-requires : tie.Need-two-lines-requires
-two-lines-requires c κs = search needs
-
-same-length-3 : tie.Need-same-length-3
-same-length-3 c = search needs
-
 returns-3 : tie.Need-returns-3
 unfolding lines
 returns-3 c =
@@ -87,21 +54,7 @@ returns-3 c =
 pub output-spec : {M : Type 1} → statement M
 output-spec =
     tie.close
-    (tie.spec
-    refusal-requires
-    same-length
-    returns
-    slice-aggregate-message-text-and-mac
-    sub-message-text-and-mac
-    part-message-text-and-mac-start
-    part-message-text-and-mac-end
-    slice-aggregate-message-text-and-mac-2
-    message-text-and-mac-requires
-    refusal-requires-2
-    same-length-2
-    returns-2
-    array-share-prefix-room
-    slice-aggregate-two-lines
-    two-lines-requires
-    same-length-3
-    returns-3)
+    (tie.spec (λ c κs. search needs) (λ c. search needs) returns slice-aggregate-message-text-and-mac
+    (λ c. search needs) (λ c. search needs) (λ c. search needs) (λ c. search needs) (λ c κs. search needs)
+    (λ c κs. search needs) (λ c. search needs) returns-2 array-share-prefix-room slice-aggregate-two-lines
+    (λ c κs. search needs) (λ c. search needs) returns-3)

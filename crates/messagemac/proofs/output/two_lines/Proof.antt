@@ -4,27 +4,6 @@ use borrow.Author.Needs.{needs}
 use Rattle.messagemac.proofs.output.two_lines.Statement.{statement}
 use Rattle.messagemac.proofs.output.two_lines.Tie as tie
 
-append-requires : tie.Need-append-requires
-append-requires c κs = search needs
-
-slice-aggregate-append : tie.Need-slice-aggregate-append
-slice-aggregate-append c = search needs
-
-append-requires-2 : tie.Need-append-requires-2
-append-requires-2 c κs = search needs
-
-append-digits-requires : tie.Need-append-digits-requires
-append-digits-requires c κs = search needs
-
-slice-aggregate-append-2 : tie.Need-slice-aggregate-append-2
-slice-aggregate-append-2 c = search needs
-
-append-requires-3 : tie.Need-append-requires-3
-append-requires-3 c κs = search needs
-
-same-length : tie.Need-same-length
-same-length c = search needs
-
 returns : tie.Need-returns
 returns c =
     let d = c .before .before .before .before .before .before .before in
@@ -34,12 +13,5 @@ returns c =
 pub two-lines-spec : {M : Type 1} → statement M
 two-lines-spec =
     tie.close
-    (tie.spec
-    append-requires
-    slice-aggregate-append
-    append-requires-2
-    append-digits-requires
-    slice-aggregate-append-2
-    append-requires-3
-    same-length
-    returns)
+    (tie.spec (λ c κs. search needs) (λ c. search needs) (λ c κs. search needs) (λ c κs. search needs)
+    (λ c. search needs) (λ c κs. search needs) (λ c. search needs) returns)
