@@ -13,7 +13,7 @@ pub padded-length : (s : List ℕ) → length (padded s) ≡ 8 * (length s / 8 +
 unfolding padded
 padded-length s = rw (length-append s (128 ∷ replicate (7 - length s % 8) 0), length-replicate) (omega arith)
 
--- 80 hex stored behind data that stand before zeros
+-- 80 hex stored after data that stand before zeros
 pub padded-stored : (s : List ℕ) → length s ≤ 255
     → take (8 * (length s / 8 + 1)) (set (s ++ replicate (256 - length s) 0) (length s) 128) ≡ padded s
 unfolding padded

@@ -9,6 +9,6 @@ use Rattle.card.specs.Turned.{turned}
 unfoldable pub counterBytes : ℕ → List ℕ
 counterBytes counter = replicate 6 0 ++ toBase 256 2 counter
 
--- the two halves before enciphering: the counter's block, and the same with the counter's bits turned
+-- the two halves before encrypting: the counter's block, and the same with the counter's bits turned
 abbrev pub sessionHalves : ℕ → List ℕ × List ℕ
 sessionHalves counter = (counterBytes counter, counterBytes (turned 16 counter))

@@ -142,7 +142,7 @@ pushed w old y h =
     ∙ sym (append-snoc w y (drop (suc (length w)) old))
     ∙ ap (λ (k : ℕ). w ++ (y ∷ []) ++ drop k old) (sym (length-append w (y ∷ []) ∙ add-one (length w)))
 
--- a character written behind w, with the space that is owed before it
+-- a character written after w, with the space that is owed before it
 pub owed-pushed : (w old : List ℕ) (owed y : ℕ) → owed ≤ 1 → length w + owed < length old
     → set (set (over w old) (length w) 32) (length w + owed) y ≡ over (w ++ replicate owed 32 ++ (y ∷ [])) old
 owed-pushed w old zero y g h = rw (add-zero, set-set, append-nil) (pushed w old y (omega arith))

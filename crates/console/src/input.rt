@@ -11,7 +11,7 @@ pub struct Input {
     pub failed: bool,
 }
 
-// Reads once into `buf`: at least a byte, or none at the end of the input. A read that fails is told on standard error, behind `who`.
+// Reads once into `buf`: at least a byte, or none at the end of the input. A read that fails is told on standard error, after `who`.
 pub fn read_some(who: &[u8], buf: &mut [u8]) -> Input
     ensures { λ r. ⌜ Counts (r .count) (now (buf .exit)) ⌝ }
     ensures { λ r. ⌜ (r .failed ≡ true → r .count ≡ 0) ⌝ }

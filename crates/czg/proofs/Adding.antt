@@ -6,7 +6,7 @@ use native.Mathlib.Omega.{arith}
 use lib.ListN.{length, take, drop, length-drop}
 use lib.Seq.{take-at, length-take-le}
 use Rattle.lent.specs.Result.{Result, bytes, Written}
-use Rattle.lent.proofs.Appending.{front-length, copied-behind}
+use Rattle.lent.proofs.Appending.{front-length, copied-after}
 use Rattle.lent.proofs.Results.{written-zero}
 
 -- the first bytes are then those that stood there, and the value
@@ -17,5 +17,5 @@ added answer s last {n} h z w =
     let k = written-zero w z in
     let v = k .0 in
     let room : n + length v ≤ length s = omega (arith, k .2, length-take-le (length s - n) (drop n s) (omega (arith, length-drop n s))) in
-    rw (k .4, k .3, k .1, copied-behind v s n room)
+    rw (k .4, k .3, k .1, copied-after v s n room)
     (take-at (take n s ++ v) (drop (length (take n s ++ v)) s) (n + length v) (front-length v s n h))

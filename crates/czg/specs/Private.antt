@@ -13,7 +13,7 @@ pub record Within (i : Inputs) (n : ℕ) : Type 0 where
   pub second : i .second ≤ i .end
   pub end : i .end ≤ n
 
--- an input that is taken adds its bytes behind those before
+-- an input that is taken adds its bytes after those before
 pub record Added (said : Result (List ℕ)) (i r : Inputs) (before after : List ℕ) : Type 0 where
   pub within : Within r (length after)
   pub bytes : r .fault ≡ 0 → take (r .end) after ≡ take (i .end) before ++ Rattle.lent.specs.Result.bytes said

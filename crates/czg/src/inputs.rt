@@ -1,4 +1,4 @@
-// The inputs of a request. Their bytes stand one behind the other.
+// The inputs of a request. Their bytes stand one after the other.
 use crate::faults::MISSING;
 use crate::faults::NOT_A_NUMBER;
 use crate::faults::NOT_BYTES;

@@ -8,7 +8,7 @@ use Rattle.cipher.specs.Triple.{tripleEncrypted}
 use Rattle.registers.specs.RegisterKey.{registerKey}
 use Rattle.host.specs.SerialNumber.{counterOf, clearedTail}
 
--- the one-way step: exclusive-or with the key, encipher under the key, exclusive-or with the key again
+-- the one-way step: exclusive-or with the key, encrypt under the key, exclusive-or with the key again
 unfoldable pub oneWay : ℕ → ℕ → ℕ
 oneWay key block = bitXor (encrypted key (bitXor block key)) key
 

@@ -7,7 +7,7 @@ ghost use Rattle.registers.specs.Counters.{bit};
 ghost use Rattle.registers.specs.RegisterKey.{registerKey};
 ghost use Rattle.host.specs.Derivation.{oneWay, givenOut};
 
-// The one-way step: exclusive-or with the key, encipher under the key, exclusive-or with the key again.
+// The one-way step: exclusive-or with the key, encrypt under the key, exclusive-or with the key again.
 pub fn one_way(key: u64, block: u64) -> u64
     ensures { λ r. ⌜ r ≡ oneWay key block ⌝ }
 {

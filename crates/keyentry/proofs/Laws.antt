@@ -1,4 +1,4 @@
--- Laws of key entry: a key's hexadecimal text gives the key back, and an accepted text is the text of the key that it gives.
+-- Laws of key entry: a key's hexadecimal text gives the key back, and a text that is entered is the text of the key that it gives.
 use mathlib.Core.Path.{_≡_, sym, ap, _∙_}
 use mathlib.Core.Bool.{true}
 use mathlib.Core.List.{List, map}
@@ -24,14 +24,14 @@ text-entered letter case key wanted b n s =
     entered (textOf letter key) wanted s (text-length letter case key ∙ ap (λ (m : ℕ). 2 * m) n) (h .0)
     ∙ ap done (h .1)
 
--- A text that is accepted as a key of the wanted size is the text of that key, its letters' case aside; the key has that size.
-pub record Accepted (text key : List ℕ) (wanted : Bytes) : Type 0 where
+-- A text that is entered as a key of the wanted size is the text of that key, its letters' case aside; the key has that size.
+pub record EnteredText (text key : List ℕ) (wanted : Bytes) : Type 0 where
   pub size : keySize wanted ≡ true
   pub count : length key ≡ wanted .0
   pub text-of : map capitalized text ≡ textOf 65 key
 
-pub accepted : (text key : List ℕ) (wanted : Bytes) → keyEntry text wanted ≡ done key → Accepted text key wanted
-accepted text key wanted e =
+pub entered-text : (text key : List ℕ) (wanted : Bytes) → keyEntry text wanted ≡ done key → EnteredText text key wanted
+entered-text text key wanted e =
     let h = passes text wanted e in
     let same = same-done (h .3) in
     record {

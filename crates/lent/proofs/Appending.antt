@@ -27,9 +27,9 @@ module _ (v s : List ℕ) (n : ℕ) where
       }
 
 -- a value that is copied to the start of what stands after the first n bytes
-pub copied-behind : (v s : List ℕ) (n : ℕ) → n + length v ≤ length s
+pub copied-after : (v s : List ℕ) (n : ℕ) → n + length v ≤ length s
     → take n s ++ (over v (take (length s - n) (drop n s)) ++ drop (length s - n) (drop n s)) ≡ over (take n s ++ v) s
-copied-behind v s n room =
+copied-after v s n room =
     let none : drop (length s - n) (drop n s) ≡ [] = drop-of-length-le (drop n s) {i = length s - n} (rw (length-drop n s) (omega arith)) in
     rw (none, part-rest n s, append-nil, drop-drop (length v) n s, front-length v s n (omega arith), append-assoc (take n s) v (drop (n + length v) s))
 
@@ -42,8 +42,8 @@ module _ {value before after : List ℕ} {n r : ℕ} (a : Appended value before 
       (take-at (take n before ++ value) (drop (n + length value) before) (n + length value) (front-length value before n (omega arith)))
 
   -- what stands after the value is as it was
-  appended-behind : (k : ℕ) → drop (r + k) after ≡ drop (r + k) before
-  appended-behind k =
+  appended-after : (k : ℕ) → drop (r + k) after ≡ drop (r + k) before
+  appended-after k =
       rw (a .end, a .memory, ← front-length value before n (omega arith))
       (drop-append-add (take n before ++ value) (drop (length (take n before ++ value)) before) k
       ∙ drop-drop k (length (take n before ++ value)) before)
@@ -66,5 +66,5 @@ both-appended {v = v} {w = w} {a = a} {b = b} {n = n} {k = k} room p q =
     let end : k + length w ≡ n + length (v ++ w) = omega (arith, p .end) in
     record {
       end = q .end ∙ end;
-      memory = q .memory ∙ rw (appended-front p first, appended-behind p first (length w), end, append-assoc (take n a) v w);
+      memory = q .memory ∙ rw (appended-front p first, appended-after p first (length w), end, append-assoc (take n a) v w);
     }

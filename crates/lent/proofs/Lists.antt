@@ -27,11 +27,11 @@ zeros-at zero i = refl
 zeros-at (suc n) zero = refl
 zeros-at (suc n) (suc i) = zeros-at n i
 
--- zeros behind a list add nothing to what stands at a place
-pub zeros-behind : (s : List ℕ) (n i : ℕ) → getD (s ++ replicate n 0) i 0 ≡ getD s i 0
-zeros-behind [] n i = zeros-at n i
-zeros-behind (x ∷ s) n zero = refl
-zeros-behind (x ∷ s) n (suc i) = zeros-behind s n i
+-- zeros after a list add nothing to what stands at a place
+pub zeros-after : (s : List ℕ) (n i : ℕ) → getD (s ++ replicate n 0) i 0 ≡ getD s i 0
+zeros-after [] n i = zeros-at n i
+zeros-after (x ∷ s) n zero = refl
+zeros-after (x ∷ s) n (suc i) = zeros-after s n i
 
 -- without the first k
 pub drop-replicate : (k n x : ℕ) → drop k (replicate n x) ≡ replicate (n - k) x

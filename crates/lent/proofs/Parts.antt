@@ -7,20 +7,20 @@ use native.Mathlib.Omega.{arith}
 use lib.ListN.{length, replicate, List·getD-append}
 use lib.Seq.{getD-append-add}
 use Rattle.lent.specs.Words.{fromBase}
-use Rattle.lent.proofs.Lists.{zeros-at, zeros-behind}
+use Rattle.lent.proofs.Lists.{zeros-at, zeros-after}
 
 module _ (b : ℕ) where
-  -- the first n digits, with others behind them
+  -- the first n digits, with others after them
   pub from-front : (n : ℕ) (s t : List ℕ) → n ≤ length s → fromBase b n (s ++ t) ≡ fromBase b n s
   unfolding fromBase
   from-front zero s t h = refl
   from-front (suc n) s t h = rw (from-front n s t (omega arith), List·getD-append s t 0 n h)
 
-  -- digits with zeros behind them
-  pub from-zeros-behind : (n : ℕ) (s : List ℕ) (k : ℕ) → fromBase b n (s ++ replicate k 0) ≡ fromBase b n s
+  -- digits with zeros after them
+  pub from-zeros-after : (n : ℕ) (s : List ℕ) (k : ℕ) → fromBase b n (s ++ replicate k 0) ≡ fromBase b n s
   unfolding fromBase
-  from-zeros-behind zero s k = refl
-  from-zeros-behind (suc n) s k = rw (from-zeros-behind n s k, zeros-behind s k n)
+  from-zeros-after zero s k = refl
+  from-zeros-after (suc n) s k = rw (from-zeros-after n s k, zeros-after s k n)
 
   -- zeros alone
   pub from-zeros : (n k : ℕ) → fromBase b n (replicate k 0) ≡ zero

@@ -48,9 +48,9 @@ both-fit key m = cases (eqb (length key) 8) (λ k. decided k (messageText m) ref
     decided k (refused why) d = (simp (k, d), simp (k, d))
 
 -- the number of a refusal
-numbered : {A : Type 0} (r : Result A) (num : ℕ) → num ≡ number r → (num ≡ 0 → ⊥) → Refuses num r
-numbered (done a) num e z = absurd (z e)
-numbered (refused why) num e z = (why, e, refl)
+number-refuses : {A : Type 0} (r : Result A) (num : ℕ) → num ≡ number r → (num ≡ 0 → ⊥) → Refuses num r
+number-refuses (done a) num e z = absurd (z e)
+number-refuses (refused why) num e z = (why, e, refl)
 
 number-alone : (r : Result (List ℕ × List ℕ)) → number r ≡ number (andThen r (λ a. done (a .1)))
 number-alone (done a) = refl
@@ -68,7 +68,7 @@ module _ (key m : List ℕ) {before after val : List ℕ} {num len : ℕ} (l : l
       }
 
   pub both-number : (num ≡ 0 → ⊥) → Refuses num (messageTextAndMac key m)
-  both-number z = numbered (messageTextAndMac key m) num (rw (l, both-fit key m .0) at (w .number)) z
+  both-number z = number-refuses (messageTextAndMac key m) num (rw (l, both-fit key m .0) at (w .number)) z
 
   pub both-zero : num ≡ 0 → (messageTextAndMac key m ≡ done (take len after, val)) × (len ≤ length after)
   both-zero z = let e = both-fit key m .0 in decided (messageTextAndMac key m) (rw (l, e) at (w .number)) (rw (l, e) at (w .text)) (rw (l, e) at (w .mac)) (rw (l, e) at (w .memory))
@@ -98,7 +98,7 @@ module _ (key m : List ℕ) (long : length key ≡ 8) {before after : List ℕ} 
 
   -- the text was refused, or had no room
   pub both-refused : (num ≡ 0 → ⊥) → Refuses num (lendText (length before) (messageTextAndMac key m)) × (after ≡ before)
-  both-refused z = let q = numbered (lend (length before) (messageText m)) num (w .number) z in (rw lent-both (refuses-then _ q), kept q)
+  both-refused z = let q = number-refuses (lend (length before) (messageText m)) num (w .number) z in (rw lent-both (refuses-then _ q), kept q)
     where
       kept : Refuses num (lend (length before) (messageText m)) → after ≡ before
       kept (why, en, e) = rw e at (w .memory)

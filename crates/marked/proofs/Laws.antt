@@ -8,7 +8,7 @@ use Rattle.mac.specs.Mac.{textMac, cleanedMac}
 use Rattle.pinblock.specs.CardNumber.{cardHalfBytes, cardPart, pinBlockWithCard}
 use Rattle.pinblock.specs.Entries.{make, makeWithCard, read}
 use Rattle.pinblock.specs.Pin.{pinHalfBytes, pinBlock}
-use Rattle.pinblock.specs.Reading.{candidate, accepted, pinOf}
+use Rattle.pinblock.specs.Reading.{candidate, pinIfMade, pinOf}
 use Rattle.card.specs.Derivation.{cardDigits, rightmost, derivationWord}
 use Rattle.card.specs.Entries.{derivationData}
 use Rattle.card.specs.Session.{counterBytes}
@@ -19,5 +19,5 @@ use Rattle.terminal.specs.Record.{afterKey}
 use Rattle.marked.specs.Cases.{answer, table, computed, expected}
 
 pub marked : computed ≡ expected
-unfolding answer table ones onesIn trailingZeros capitalized fromBase toBase capitals kept keptOnly trimmedStart trimmedEnd trimmed closedUp cleaned cleanText textMac cleanedMac cardHalfBytes cardPart pinBlockWithCard make makeWithCard read pinHalfBytes pinBlock candidate accepted pinOf cardDigits rightmost derivationWord derivationData counterBytes turned nextAfter nextCounter spent afterKey
+unfolding answer table ones onesIn trailingZeros capitalized fromBase toBase capitals kept keptOnly trimmedStart trimmedEnd trimmed closedUp cleaned cleanText textMac cleanedMac cardHalfBytes cardPart pinBlockWithCard make makeWithCard read pinHalfBytes pinBlock candidate pinIfMade pinOf cardDigits rightmost derivationWord derivationData counterBytes turned nextAfter nextCounter spent afterKey
 marked = refl

@@ -33,7 +33,7 @@ pub data Input : Type 0 where
   block : List ℕ → Input
   -- a card number and sequence, of which Y is asked
   cardAndSequence : List ℕ → ℕ → Input
-  -- a transaction counter, of which the two halves before enciphering are asked
+  -- a transaction counter, of which the two halves before encrypting are asked
   halvesOf : ℕ → Input
   -- a terminal's counter, of which the one that is next after it is asked
   after : ℕ → Input
@@ -101,7 +101,7 @@ table =
     -- k and l: Y
     ∷ row (cardAndSequence (digits 16 4219876543210987) 0) (wordBytes 0x1987654321098700) 0
     ∷ row (cardAndSequence (digits 13 6228000100001) 1) (wordBytes 0x0622800010000101) 0
-    -- m: the halves of a session key before enciphering
+    -- m: the halves of a session key before encrypting
     ∷ row (halvesOf 0x0240) (wordBytes 0x0000000000000240 ++ wordBytes 0x000000000000FDBF) 0
     -- n, o and p: the next counter
     ∷ row (after 0x3FF) (toBase 256 3 0x400) 0

@@ -117,17 +117,17 @@ module _ (derivation serial : List ℕ) (ok : Fit derivation serial) where
     gives e for =
         let c = for .counter in
         let p = for .nth .permitted in
-        let told : x .answer .counter ≡ c = next .counter ∙ on-done _ _ e ∙ ap (λ (g : List ℕ × ℕ). g .1) (for .equal) in
+        let same-counter : x .answer .counter ≡ c = next .counter ∙ on-done _ _ e ∙ ap (λ (g : List ℕ × ℕ). g .1) (for .equal) in
         let wrote = next .memory ∙ on-done _ _ e in
         let key : take 8 (x .after) ≡ wordBytes (hostKeyOf derivation (withCounter serial c)) =
         ap (take 8) wrote ∙ key-first _ (x .before) ∙ ap (λ (g : List ℕ × ℕ). g .0) (for .equal)
         ∙ ap wordBytes (sym (host-with serial c derivation p)) in
         record {
-          nth = rw told (for .nth);
+          nth = rw same-counter (for .nth);
           serial-number = next .serial ∙ on-done _ _ e ∙ ap (λ (s : List ℕ). withCounter s (t .counter)) (good .same) ∙ with-with (t .counter) serial 0
               ∙ ap (withCounter serial) (sym (next .counter ∙ on-done _ _ e));
-          key = rw told key;
-          host = rw told (λ m value answer. let h = host-answers c p m value answer in (h .0, h .1 ∙ sym key));
+          key = rw same-counter key;
+          host = rw same-counter (λ m value answer. let h = host-answers c p m value answer in (h .0, h .1 ∙ sym key));
           rest = ap (drop 8) wrote ∙ rest-kept _ (x .before);
         }
 

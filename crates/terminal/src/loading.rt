@@ -28,8 +28,8 @@ fn refused() -> Loaded
     }
 }
 
-// Loads a terminal with an initial key and a serial number, whose counter is cleared: 6 where the key has not 8 bytes or the serial number
-// not 10. Counter 1 is next. A refusal answers the all-zero record.
+// Loads a terminal with an initial key and a serial number, whose counter is cleared. Refuses with 6 if the key does not have 8 bytes or the
+// serial number 10. Counter 1 is next. A refusal answers the all-zero record.
 pub fn load(initial: &[u8], serial: &[u8]) -> Loaded
     ensures { λ r. ⌜ Load (now (initial .entry)) (now (serial .entry)) r ⌝ }
 {

@@ -21,7 +21,7 @@ record Turn (text before out : List ℕ) (n started owed i : ℕ) : Type 0 where
   pub count : n ≡ length written
   pub memory : out ≡ over written before
   pub rest : written ++ pass started owed (drop i text) ≡ cleaned text
-  pub behind : n + owed ≤ i
+  pub not-ahead : n + owed ≤ i
   pub one : started ≤ 1
   pub after : owed ≤ started
   pub within : i ≤ length text
@@ -46,7 +46,7 @@ loop-holds c =
       count = refl;
       memory = refl;
       rest = sym (cleaned-pass _);
-      behind = omega arith;
+      not-ahead = omega arith;
       one = omega arith;
       after = omega arith;
       within = omega arith;
@@ -63,7 +63,7 @@ loop-again c =
       count = l .inv .count;
       memory = l .inv .memory;
       rest = next (l .inv) _ (omega arith) (pass-space _ _ _ _ space);
-      behind = omega arith;
+      not-ahead = omega arith;
       one = omega arith;
       after = omega arith;
       within = omega arith;
@@ -88,7 +88,7 @@ loop-again-2 c =
       count = simp (length-append, length-replicate) (omega arith);
       memory = rw (l .inv .memory, l .inv .count) (owed-pushed w (a .out .now) (l .owed) y (omega arith) (omega arith));
       rest = rw e (simp append-assoc (next (l .inv) _ (omega arith) (pass-kept x _ _ _ n k)));
-      behind = omega arith;
+      not-ahead = omega arith;
       one = omega arith;
       after = omega arith;
       within = omega arith;
@@ -107,7 +107,7 @@ loop-again-3 c =
       count = l .inv .count;
       memory = l .inv .memory;
       rest = next (l .inv) _ (omega arith) (pass-dropped x _ _ _ n k);
-      behind = omega arith;
+      not-ahead = omega arith;
       one = l .inv .one;
       after = l .inv .after;
       within = omega arith;

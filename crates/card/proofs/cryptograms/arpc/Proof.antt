@@ -4,7 +4,7 @@ use borrow.Author.Tests.{eq-eqb, ne-eqb}
 use mathlib.Core.Path.{refl}
 use Rattle.lent.specs.Refusals.{size}
 use Rattle.lent.proofs.Results.{refused-block}
-use Rattle.lent.proofs.Parts.{from-zeros-behind}
+use Rattle.lent.proofs.Parts.{from-zeros-after}
 use Rattle.card.specs.Cryptograms.{arpcWord}
 use Rattle.card.specs.Entries.{arpc}
 use Rattle.card.proofs.cryptograms.arpc.Statement.{statement}
@@ -36,7 +36,7 @@ returns-4 c =
       eq-eqb _ _ (b .before .if1 .left),
       eq-eqb _ _ (b .if2 .left),
       eq-eqb _ _ (w .before .if3 .left),
-      from-zeros-behind 256 8,
+      from-zeros-after 256 8,
       ← w .word-of .ensures,
       ← c .before .before .word-of2 .ensures,
       ← c .before .triple-encrypt .ensures,

@@ -6,7 +6,7 @@ use mathlib.Core.List.{_++_}
 use Prim.Native.Nat.{_+_}
 use native.Mathlib.Omega.{arith}
 use lib.ListN.{length, take}
-use Rattle.lent.proofs.Appending.{front-length, copied-behind}
+use Rattle.lent.proofs.Appending.{front-length, copied-after}
 use Rattle.lent.proofs.memory.append.Statement.{statement}
 use Rattle.lent.proofs.memory.append.Tie as tie
 
@@ -32,7 +32,7 @@ returns-3 c =
     record {
       number = simp (h, k);
       value = simp (h, k) (sym l);
-      memory = simp (h, k) (rw (c .before .before .copy .ensures) (copied-behind (a .value .now) (a .out .now) (a .n) (omega arith)));
+      memory = simp (h, k) (rw (c .before .before .copy .ensures) (copied-after (a .value .now) (a .out .now) (a .n) (omega arith)));
     }
 
 pub append-spec : {M : Type 1} → statement M
