@@ -68,8 +68,8 @@ pub line-found : (lines : List String) (s : List ℕ) (n start next : ℕ)
 line-found lines s n start next f g =
     cases (ltb n (length lines))
     (λ t.
-      let d : drop start s ≡ ascii (getD lines n "") ++ 10 ∷ drop next s = f .1 ∙ rw (drop-cons lines n "" (ltb-true _ _ t), g .1, add-one n) in
-      let k = simp (length-drop, length-append) at (ap length d) in
-      rw (t, lt-ltb start next (omega arith), d, take-at (ascii (getD lines n "")) (10 ∷ drop next s) (next - 1 - start) (omega arith)))
+    let d : drop start s ≡ ascii (getD lines n "") ++ 10 ∷ drop next s = f .1 ∙ rw (drop-cons lines n "" (ltb-true _ _ t), g .1, add-one n) in
+    let k = simp (length-drop, length-append) at (ap length d) in
+    rw (t, lt-ltb start next (omega arith), d, take-at (ascii (getD lines n "")) (10 ∷ drop next s) (next - 1 - start) (omega arith)))
     (λ e.
-      let k = simp (length-drop, drop-of-length-le lines (ltb-false _ _ e)) at (ap length (f .1)) in rw (e, le-ltb start next (omega arith)))
+    let k = simp (length-drop, drop-of-length-le lines (ltb-false _ _ e)) at (ap length (f .1)) in rw (e, le-ltb start next (omega arith)))
