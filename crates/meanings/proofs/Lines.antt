@@ -26,7 +26,7 @@ after [] n = []
 after (x ∷ s) zero = x ∷ s
 after (x ∷ s) (suc n) = after s (pick (lineFeed x) n (suc n))
 
--- after none
+-- after none of them
 pub after-none : (s : List ℕ) → after s 0 ≡ s
 unfolding after
 after-none [] = refl
