@@ -26,7 +26,7 @@ fn line_start(text: &[u8], n: usize) -> usize
     i
 }
 
-// The line that starts there, up to the line feed before the next one's start.
+// The line of a text from its start to the line feed before the next one's start.
 fn line(text: &[u8], start: usize, next: usize) -> &[u8]
     requires { ⌜ (start < next) × (next ≤ length (now text)) ⌝ }
     ensures { λ r. ⌜ now r ≡ take (next - 1 - start) (drop start (now (text .entry))) ⌝ }

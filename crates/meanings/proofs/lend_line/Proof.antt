@@ -26,7 +26,7 @@ returns c =
     let b = c .before .before in
     let a = b .before .before .before .before .args in
     let found = line-found meanings (a .text .now) (a .number) (b .before .line-start .result) (b .line-start2 .result)
-        (b .before .line-start .ensures) (b .line-start2 .ensures) in
+    (b .before .line-start .ensures) (b .line-start2 .ensures) in
     refused-answer (c .refused .ensures) (size, refl, rw (le-ltb _ _ (c .before .if1 .taken)) at found)
 
 line-requires : tie.Need-line-requires
@@ -43,7 +43,7 @@ returns-2 c =
     let b = c .before .before .before .before .before .before in
     let a = b .before .before .before .before .args in
     let found = line-found meanings (a .text .now) (a .number) (b .before .line-start .result) (b .line-start2 .result)
-        (b .before .line-start .ensures) (b .line-start2 .ensures) in
+    (b .before .line-start .ensures) (b .line-start2 .ensures) in
     let d = c .before .before .before .before in
     rw (rw (lt-ltb _ _ (d .before .if1 .left)) at found, ← d .line .ensures) (c .before .before .lend .ensures)
 

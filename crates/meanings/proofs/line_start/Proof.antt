@@ -2,17 +2,14 @@
 use borrow.Author.Needs.{needs}
 use borrow.Author.Tests.{eq-eqb, ne-eqb}
 use mathlib.Core.Logic.{⊎-elim}
-use mathlib.Core.Path.{_≡_, refl, sym, _∙_}
+use mathlib.Core.Path.{_≡_, refl, _∙_}
 use Prim.Native.Nat.{_-_, _≤_}
-use native.Mathlib.Omega.{arith}
 use lib.ListN.{length, drop, drop-of-length-le}
 use Rattle.meanings.specs.Lines.{joined}
 use Rattle.meanings.specs.Meanings.{meanings}
 use Rattle.meanings.proofs.Lines.{after, after-none, after-next, allPlain, after-lines}
 use Rattle.meanings.proofs.line_start.Statement.{statement}
 use Rattle.meanings.proofs.line_start.Tie as tie
-use Rattle.meanings.proofs.line_start.Reads as reads
-use Rattle.meanings.proofs.line_start.Lts as lts
 
 abbrev Inv-loop : tie.InvT-loop
 Inv-loop text n left₀ i₀ left i = (i ≤ length text) × (after (drop i text) left ≡ joined (drop n meanings))
