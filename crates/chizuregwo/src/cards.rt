@@ -14,7 +14,12 @@ pub extern "C" fn czg_derivation_data(card: &[u8], sequence: u32, out: &mut [u8]
 
 // The card key, 16 bytes: 6, 7, 13.
 #[no_mangle]
-pub extern "C" fn czg_card_key(master: &[u8], card: &[u8], sequence: u32, out: &mut [u8]) -> lent::Answer
+pub extern "C" fn czg_card_key(
+    master: &[u8],
+    card: &[u8],
+    sequence: u32,
+    out: &mut [u8],
+) -> lent::Answer
     ensures { λ r. ⌜ Written (Entries.cardKey (now (master .entry)) (now (card .entry)) sequence) (now (out .entry)) (r .number) (r .length) (now (out .exit)) ⌝ }
 {
     lend_double_block(card::card_key(master, card, sequence), out)
@@ -38,7 +43,12 @@ pub extern "C" fn czg_arqc(session_key: &[u8], data: &[u8], out: &mut [u8]) -> l
 
 // The ARPC of an ARQC and a code, 8 bytes: 6, 13.
 #[no_mangle]
-pub extern "C" fn czg_arpc(session_key: &[u8], arqc: &[u8], code: &[u8], out: &mut [u8]) -> lent::Answer
+pub extern "C" fn czg_arpc(
+    session_key: &[u8],
+    arqc: &[u8],
+    code: &[u8],
+    out: &mut [u8],
+) -> lent::Answer
     ensures { λ r. ⌜ Written (Entries.arpc (now («session_key» .entry)) (now (arqc .entry)) (now (code .entry))) (now (out .entry)) (r .number) (r .length) (now (out .exit)) ⌝ }
 {
     lend_block(card::arpc(session_key, arqc, code), out)

@@ -106,7 +106,13 @@ fn put_answer(out: &mut [u8], n: usize, text: bool, number: u32, value: &[u8]) -
 }
 
 // Calls an entry that writes one value, on the bytes of the inputs, with so much room lent to it.
-fn call_with_room(place: usize, i: Inputs, room: usize, bytes: &[u8], value: &mut [u8]) -> lent::Answer
+fn call_with_room(
+    place: usize,
+    i: Inputs,
+    room: usize,
+    bytes: &[u8],
+    value: &mut [u8],
+) -> lent::Answer
     requires { ⌜ place < 24 ⌝ }
     requires { ⌜ Within i (length (now bytes)) ⌝ }
     requires { ⌜ room ≤ length (now value) ⌝ }

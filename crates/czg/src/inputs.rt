@@ -123,7 +123,7 @@ fn end_of(word: &[u8], line: &[u8], at: usize) -> usize
     find(line, at, b' ')
 }
 
-// Writes the bytes that an input says: 6 or 7 where it is not hexadecimal, 13 where there is no room.
+// Writes the bytes that an input says. Refuses with 6 or 7 if it is not hexadecimal, 13 if there is no room.
 fn put_input(characters: bool, part: &[u8], out: &mut [u8]) -> lent::Answer
     ensures { λ r. ⌜ Written (inputBytes characters (now (part .entry))) (now (out .entry)) (r .number) (r .length) (now (out .exit)) ⌝ }
 {

@@ -40,7 +40,7 @@ fn changed_word(direction: Direction, key: &[u8], x: u64) -> u64
     }
 }
 
-// A block encrypted or decrypted under a key: 6 if the block does not have 8 bytes or the key 8 or 16.
+// A block encrypted or decrypted under a key. Refuses with 6 if the block does not have 8 bytes or the key 8 or 16.
 fn changed_block(direction: Direction, key: &[u8], block: &[u8]) -> lent::Block
     ensures { λ r. ⌜ Answered 8 (changedBlock (changedUnder direction) (now (key .entry)) (now (block .entry))) (r .number) (r .value) ⌝ }
 {
@@ -53,14 +53,14 @@ fn changed_block(direction: Direction, key: &[u8], block: &[u8]) -> lent::Block
     lent::block_of(changed_word(direction, key, lent::word_of(block)))
 }
 
-// A block encrypted under a key: 6 if the block does not have 8 bytes or the key 8 or 16.
+// A block encrypted under a key. Refuses with 6 if the block does not have 8 bytes or the key 8 or 16.
 pub fn encrypt_block(key: &[u8], block: &[u8]) -> lent::Block
     ensures { λ r. ⌜ Answered 8 (encryptBlock (now (key .entry)) (now (block .entry))) (r .number) (r .value) ⌝ }
 {
     changed_block(Direction::Encrypting, key, block)
 }
 
-// A block decrypted under a key: 6 if the block does not have 8 bytes or the key 8 or 16.
+// A block decrypted under a key. Refuses with 6 if the block does not have 8 bytes or the key 8 or 16.
 pub fn decrypt_block(key: &[u8], block: &[u8]) -> lent::Block
     ensures { λ r. ⌜ Answered 8 (decryptBlock (now (key .entry)) (now (block .entry))) (r .number) (r .value) ⌝ }
 {

@@ -23,7 +23,7 @@ fn copy(to: &mut [u8], from: &[u8])
     }
 }
 
-// Writes a value into lent memory: 13 where the memory is shorter.
+// Writes a value into lent memory. Refuses with 13 if the memory is shorter.
 pub fn lend(value: &[u8], out: &mut [u8]) -> Answer
     ensures { λ r. ⌜ Written (done (now (value .entry))) (now (out .entry)) (r .number) (r .length) (now (out .exit)) ⌝ }
 {
@@ -37,7 +37,7 @@ pub fn lend(value: &[u8], out: &mut [u8]) -> Answer
     }
 }
 
-// Writes the eight bytes of a word into lent memory: 13 where the memory is shorter.
+// Writes the eight bytes of a word into lent memory. Refuses with 13 if the memory is shorter.
 pub fn lend_word(x: u64, out: &mut [u8]) -> Answer
     ensures { λ r. ⌜ Written (done (wordBytes x)) (now (out .entry)) (r .number) (r .length) (now (out .exit)) ⌝ }
 {
@@ -45,7 +45,8 @@ pub fn lend_word(x: u64, out: &mut [u8]) -> Answer
     lend(&bytes, out)
 }
 
-// Writes a value into lent memory after its first n bytes, and answers how many there are then: 13 where the memory is shorter.
+// Writes a value into lent memory after its first n bytes, and answers how many there are then. Refuses with 13 if the memory is
+// shorter.
 pub fn append(out: &mut [u8], n: usize, value: &[u8]) -> Answer
     ensures { λ r. ⌜ Written (appending (now (value .entry)) (now (out .entry)) n) (now (out .entry)) (r .number) (r .length) (now (out .exit)) ⌝ }
 {

@@ -8,7 +8,7 @@ ghost use Prim.Native.Nat.{ℕ};
 ghost use Rattle.lent.specs.Result.{Result, Answered, Written};
 ghost use Rattle.pinblock.specs.Entries;
 
-// A block that was made, encrypted under a key: 6 if the key does not have 8 or 16 bytes; a refusal to make it stays.
+// A block that was made, encrypted under a key. Refuses with 6 if the key does not have 8 or 16 bytes; a refusal to make it stays.
 fn under_key(key: &[u8], made: lent::Block) -> lent::Block
     ensures { λ r. ⌜ ((making : Result (List ℕ)) → Answered 8 making (made .number) (made .value) → Answered 8 (Entries.underKey (now (key .entry)) making) (r .number) (r .value)) ⌝ }
 {
@@ -22,7 +22,7 @@ fn under_key(key: &[u8], made: lent::Block) -> lent::Block
     keyed::encrypt_block(key, &block)
 }
 
-// The encrypted block of a PIN: 6 if the PIN does not have 4 to 12 characters or the key 8 or 16 bytes, 7 if a character is not a
+// The encrypted block of a PIN. Refuses with 6 if the PIN does not have 4 to 12 characters or the key 8 or 16 bytes, 7 if a character is not a
 // digit.
 pub fn encrypt(key: &[u8], pin: &[u8]) -> lent::Block
     ensures { λ r. ⌜ Answered 8 (Entries.encrypt (now (key .entry)) (now (pin .entry))) (r .number) (r .value) ⌝ }
@@ -30,7 +30,7 @@ pub fn encrypt(key: &[u8], pin: &[u8]) -> lent::Block
     under_key(key, make(pin))
 }
 
-// The encrypted block of a PIN with a card number: 6 if the PIN does not have 4 to 12 characters, the card number 13 to 19 or the key 8
+// The encrypted block of a PIN with a card number. Refuses with 6 if the PIN does not have 4 to 12 characters, the card number 13 to 19 or the key 8
 // or 16 bytes, 7 if a character of the PIN or the card number is not a digit.
 pub fn encrypt_with_card(key: &[u8], pin: &[u8], card: &[u8]) -> lent::Block
     ensures { λ r. ⌜ Answered 8 (Entries.encryptWithCard (now (key .entry)) (now (pin .entry)) (now (card .entry))) (r .number) (r .value) ⌝ }
@@ -38,7 +38,7 @@ pub fn encrypt_with_card(key: &[u8], pin: &[u8], card: &[u8]) -> lent::Block
     under_key(key, make_with_card(pin, card))
 }
 
-// The PIN of an encrypted block: 6 if the block does not have 8 bytes or the key 8 or 16, 8 if the block comes from no permitted PIN,
+// The PIN of an encrypted block. Refuses with 6 if the block does not have 8 bytes or the key 8 or 16, 8 if the block comes from no permitted PIN,
 // 13 if the memory is shorter than the PIN.
 pub fn decrypt(key: &[u8], block: &[u8], out: &mut [u8]) -> lent::Answer
     ensures { λ r. ⌜ Written (Entries.decrypt (now (key .entry)) (now (block .entry))) (now (out .entry)) (r .number) (r .length) (now (out .exit)) ⌝ }
@@ -51,7 +51,7 @@ pub fn decrypt(key: &[u8], block: &[u8], out: &mut [u8]) -> lent::Answer
     read(&value, out)
 }
 
-// The PIN of an encrypted block with a card number: 6 if the block does not have 8 bytes, the key 8 or 16 or the card number 13 to 19
+// The PIN of an encrypted block with a card number. Refuses with 6 if the block does not have 8 bytes, the key 8 or 16 or the card number 13 to 19
 // characters, 7 if one of these is not a digit, 8 if the block comes from no permitted PIN, 13 if the memory is shorter than the PIN.
 pub fn decrypt_with_card(key: &[u8], block: &[u8], card: &[u8], out: &mut [u8]) -> lent::Answer
     ensures { λ r. ⌜ Written (Entries.decryptWithCard (now (key .entry)) (now (block .entry)) (now (card .entry))) (now (out .entry)) (r .number) (r .length) (now (out .exit)) ⌝ }

@@ -28,7 +28,7 @@ fn text_of(block: u64, count: usize) -> [u8; 12]
     text
 }
 
-// A PIN, if its block is this one: 8 if it is not permitted or its block is another, 13 if the memory is shorter than the PIN.
+// A PIN, if its block is this one. Refuses with 8 if it is not permitted or its block is another, 13 if the memory is shorter than the PIN.
 fn pin_if_made(pin: &[u8], block: u64, out: &mut [u8]) -> lent::Answer
     ensures { λ r. ⌜ Written (pinIfMade (now (pin .entry)) block) (now (out .entry)) (r .number) (r .length) (now (out .exit)) ⌝ }
 {
@@ -44,7 +44,7 @@ fn pin_if_made(pin: &[u8], block: u64, out: &mut [u8]) -> lent::Answer
     lent::lend(pin, out)
 }
 
-// The PIN of a clear block's word: 8 if it comes from no permitted PIN, 13 if the memory is shorter than the PIN. A length above 12 is
+// The PIN of a clear block's word. Refuses with 8 if it comes from no permitted PIN, 13 if the memory is shorter than the PIN. A length above 12 is
 // no permitted PIN's.
 fn read_word(block: u64, out: &mut [u8]) -> lent::Answer
     ensures { λ r. ⌜ Written (pinOf block) (now (out .entry)) (r .number) (r .length) (now (out .exit)) ⌝ }
@@ -57,7 +57,7 @@ fn read_word(block: u64, out: &mut [u8]) -> lent::Answer
     pin_if_made(&text[..count], block, out)
 }
 
-// The PIN of a block: 6 if the block does not have 8 bytes, 8 if it comes from no permitted PIN, 13 if the memory is shorter than the
+// The PIN of a block. Refuses with 6 if the block does not have 8 bytes, 8 if it comes from no permitted PIN, 13 if the memory is shorter than the
 // PIN.
 pub fn read(block: &[u8], out: &mut [u8]) -> lent::Answer
     ensures { λ r. ⌜ Written (Entries.read (now (block .entry))) (now (out .entry)) (r .number) (r .length) (now (out .exit)) ⌝ }
@@ -68,7 +68,7 @@ pub fn read(block: &[u8], out: &mut [u8]) -> lent::Answer
     read_word(lent::word_of(block), out)
 }
 
-// The PIN of a block with a card number: 6 if the block does not have 8 bytes or the card number 13 to 19 characters, 7 if one of
+// The PIN of a block with a card number. Refuses with 6 if the block does not have 8 bytes or the card number 13 to 19 characters, 7 if one of
 // these is not a digit, 8 if the block comes from no permitted PIN, 13 if the memory is shorter than the PIN.
 pub fn read_with_card(block: &[u8], card: &[u8], out: &mut [u8]) -> lent::Answer
     ensures { λ r. ⌜ Written (Entries.readWithCard (now (block .entry)) (now (card .entry))) (now (out .entry)) (r .number) (r .length) (now (out .exit)) ⌝ }

@@ -66,7 +66,7 @@ fn after_key(t: Terminal) -> Terminal
     }
 }
 
-// Gives out the next key, in the first eight bytes of `out`: 11 where the record does not hang together, 12 where it is exhausted, 13 where
+// Gives out the next key, in the first eight bytes of `out`. Refuses with 11 if the record does not hang together, 12 if it is exhausted, 13 if
 // `out` is shorter than the key. A refusal leaves the record and `out` as they were.
 pub fn next_key(t: Terminal, out: &mut [u8]) -> NextKey
     ensures { λ r. ⌜ Next t (now (out .entry)) r (now (out .exit)) ⌝ }

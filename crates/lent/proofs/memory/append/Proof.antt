@@ -20,7 +20,7 @@ returns-2 c =
     let a = c .before .before .before .before .before .args in
     let h = le-leb (a .n) (length (a .out .now)) (omega arith) in
     let k = lt-leb (length (take (a .n) (a .out .now) ++ a .value .now)) (length (a .out .now))
-        (omega (arith, front-length (a .value .now) (a .out .now) (a .n) (omega arith))) in
+    (omega (arith, front-length (a .value .now) (a .out .now) (a .n) (omega arith))) in
     record { number = simp (h, k) (cc); value = simp (h, k) (cc); memory = simp (h, k) }
 
 returns-3 : tie.Need-returns-3

@@ -47,7 +47,7 @@ loop-again c =
     let l = c .before .before .before .before .before .before .before in
     let b = c .before .before .before .before .before .bytes-of .ensures in
     let k = one-more (l .before .before .args .t1) (l .before .before .args .bytes .now) (l .loop .i) (omega arith) (omega arith) (omega arith) (l .loop .inv .2) (l .loop .inv .3)
-        (rw b at (c .before .before .put .ensures)) in
+    (rw b at (c .before .before .put .ensures)) in
     (search needs, search needs, k .1, k .0)
 
 returns : tie.Need-returns Inv-loop μ-loop
