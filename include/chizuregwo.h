@@ -31,7 +31,7 @@
 extern "C" {
 #endif
 
-/* The version of this header, 0.1.0: 10,000 times the major, 100 times the minor and the patch number. */
+/* The version of this header, 0.1.0: 10,000 times the major number plus 100 times the minor plus the patch. */
 #define CZG_VERSION 100
 
 /* The numbers an operator sees, each with its meaning, as czg_meaning writes it. */
@@ -94,7 +94,7 @@ typedef struct czg_answer {
 
 /* ---- The library itself ---- */
 
-/* The version of the library that is linked, made as CZG_VERSION is. */
+/* The version of the library that is linked, made as CZG_VERSION is: where they differ, header and library do not belong together. */
 uint32_t czg_version(void);
 
 /*

@@ -53,7 +53,7 @@ fn at_most(
     Ok(out)
 }
 
-/// The version of the library that is linked: 10,000 times the major, 100 times the minor and the patch number.
+/// The version of the library that is linked: 10,000 times the major number plus 100 times the minor plus the patch.
 ///
 /// ```
 /// assert_eq!(chizuregwo::version(), 100);
