@@ -3,6 +3,6 @@ use mathlib.Core.List.{List}
 use Prim.Native.Nat.{ℕ}
 use Rattle.lent.specs.Result.{Result, Answered, Written}
 
--- Whatever result the answer by value stands for, it is written.
-abbrev pub Lent : ℕ → ℕ → List ℕ → List ℕ → ℕ → ℕ → List ℕ → Type 0
-Lent n number value before num len after = (answer : Result (List ℕ)) → Answered n answer number value → Written answer before num len after
+-- Whatever result of n bytes the answer by value stands for, it is written.
+abbrev pub Lent : ℕ → List ℕ → List ℕ → ℕ → ℕ → List ℕ → Type 0
+Lent number value before num len after = (n : ℕ) (answer : Result (List ℕ)) → Answered n answer number value → Written answer before num len after

@@ -1,24 +1,28 @@
 // How a value goes from an answer by value into lent memory.
 ghost use Rattle.chizuregwo.specs.Lent.{Lent};
 
-// Writes an answer of eight bytes into lent memory: its own refusal, then 13.
-pub(crate) fn lend_block(answer: lent::Block, out: &mut [u8]) -> lent::Answer
-    ensures { λ r. ⌜ Lent 8 (answer .number) (answer .value) (now (out .entry)) (r .number) (r .length) (now (out .exit)) ⌝ }
+// Writes the value of an answer into lent memory: its own refusal, then 13.
+fn lend(number: u32, value: &[u8], out: &mut [u8]) -> lent::Answer
+    ensures { λ r. ⌜ Lent number (now (value .entry)) (now (out .entry)) (r .number) (r .length) (now (out .exit)) ⌝ }
 {
-    if answer.number != lent::DONE {
-        return lent::refused(answer.number);
+    if number != lent::DONE {
+        return lent::refused(number);
     }
-    let value = answer.value;
-    lent::lend(&value, out)
+    lent::lend(value, out)
 }
 
-// Writes an answer of sixteen bytes into lent memory: its own refusal, then 13.
-pub(crate) fn lend_double_block(answer: lent::DoubleBlock, out: &mut [u8]) -> lent::Answer
-    ensures { λ r. ⌜ Lent 16 (answer .number) (answer .value) (now (out .entry)) (r .number) (r .length) (now (out .exit)) ⌝ }
+// Writes an answer of eight bytes into lent memory.
+pub(crate) fn lend_block(answer: lent::Block, out: &mut [u8]) -> lent::Answer
+    ensures { λ r. ⌜ Lent (answer .number) (answer .value) (now (out .entry)) (r .number) (r .length) (now (out .exit)) ⌝ }
 {
-    if answer.number != lent::DONE {
-        return lent::refused(answer.number);
-    }
     let value = answer.value;
-    lent::lend(&value, out)
+    lend(answer.number, &value, out)
+}
+
+// Writes an answer of sixteen bytes into lent memory.
+pub(crate) fn lend_double_block(answer: lent::DoubleBlock, out: &mut [u8]) -> lent::Answer
+    ensures { λ r. ⌜ Lent (answer .number) (answer .value) (now (out .entry)) (r .number) (r .length) (now (out .exit)) ⌝ }
+{
+    let value = answer.value;
+    lend(answer.number, &value, out)
 }

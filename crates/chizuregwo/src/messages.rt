@@ -1,6 +1,7 @@
-// Key entry, cleaning, a message's text, and MACs.
+// Meanings, key entry, cleaning, a message's text, and MACs.
 use crate::answers::lend_block;
 ghost use Rattle.lent.specs.Result.{Written};
+ghost use Rattle.meanings.specs.Meanings;
 ghost use Rattle.keyentry.specs.KeyEntry.{keyEntry};
 ghost use Rattle.cleaning.specs.Cleaning.{cleanText};
 ghost use Rattle.message.specs.Text.{messageText};
@@ -49,4 +50,12 @@ pub extern "C" fn czg_message_mac(key: &[u8], message: &[u8], out: &mut [u8]) ->
     ensures { λ r. ⌜ Written (messageMac (now (key .entry)) (now (message .entry))) (now (out .entry)) (r .number) (r .length) (now (out .exit)) ⌝ }
 {
     lend_block(mac::message_mac(key, message), out)
+}
+
+// Writes what a number means, as text: 6, 13.
+#[no_mangle]
+pub extern "C" fn czg_meaning(number: u32, out: &mut [u8]) -> lent::Answer
+    ensures { λ r. ⌜ Written (Meanings.meaning number) (now (out .entry)) (r .number) (r .length) (now (out .exit)) ⌝ }
+{
+    meanings::meaning(number, out)
 }

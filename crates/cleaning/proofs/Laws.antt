@@ -1,17 +1,15 @@
 -- Laws on cleaned texts that other crates cite.
 use borrow.Author.Tests.{le-leb, lt-leb, leb-true}
 use mathlib.Core.Path.{_≡_, refl, sym, _∙_}
-use mathlib.Core.Bool.{true}
+use mathlib.Core.Bool.{true, false}
 use mathlib.Core.List.{List, [], _∷_, _++_}
-use Prim.Native.Nat.{ℕ, _+_, _-_, _<_, _≤_}
+use Prim.Native.Nat.{ℕ, zero, suc, _+_, _-_, _<_, _≤_}
 use native.Mathlib.Omega.{arith}
-use lib.Dec.{leb, eqb, lit<}
-use lib.ListN.{length, length-append, length-replicate}
+use lib.Dec.{leb, eqb}
+use lib.ListN.{length, replicate, length-append, length-replicate}
 use Rattle.lent.specs.Characters.{digit, small, capitalized}
-use Rattle.lent.specs.Refusals.{size}
 use Rattle.lent.specs.Result.{done, lend}
 use Rattle.lent.proofs.Laws.{cases, between-true}
-use Rattle.lent.proofs.Results.{Numbered, done-numbered, require-numbered}
 use Rattle.cleaning.specs.Cleaning.{kept, cleaned, cleanText}
 use Rattle.cleaning.proofs.Pass.{pass, cleaned-pass, pass-kept}
 
@@ -22,34 +20,24 @@ capitalized-again x =
     (λ t. let h = between-true 97 122 x t in simp (t, lt-leb 97 (x - 32) (omega arith)))
     (λ f. simp f)
 
-mutual
-  unfolding pass capitalized
-
-  again : (s : List ℕ) → pass 1 0 (pass 1 0 s) ≡ pass 1 0 s
-  again [] = refl
-  again (x ∷ s) =
-      cases (eqb (capitalized x) 32) (λ e. simp e (again-owed s))
-      (λ n.
-      cases (kept (capitalized x)) (λ k. simp (n, k, capitalized-again x, again s)) (λ k. simp (n, k) (again s)))
-
-  again-owed : (s : List ℕ) → pass 1 0 (pass 1 1 s) ≡ pass 1 1 s
-  again-owed [] = refl
-  again-owed (x ∷ s) =
-      cases (eqb (capitalized x) 32) (λ e. simp e (again-owed s))
-      (λ n.
-      cases (kept (capitalized x)) (λ k. simp (n, k, capitalized-again x, again s)) (λ k. simp (n, k) (again-owed s)))
-
-again-start : (s : List ℕ) → pass 0 0 (pass 0 0 s) ≡ pass 0 0 s
-unfolding pass
-again-start [] = refl
-again-start (x ∷ s) =
-    cases (eqb (capitalized x) 32) (λ e. simp e (again-start s))
-    (λ n.
-    cases (kept (capitalized x)) (λ k. simp (n, k, capitalized-again x, again s)) (λ k. simp (n, k) (again-start s)))
+again : (s : List ℕ) (started owed : ℕ) → owed ≤ started → started ≤ 1 → pass started 0 (pass started owed s) ≡ pass started owed s
+unfolding pass capitalized
+again [] started owed g h = refl
+again (x ∷ s) started owed g h =
+    cases (eqb (capitalized x) 32) (λ e. simp e (again s started started (omega arith) h))
+    (λ n. cases (kept (capitalized x)) (λ k. simp (n, k) (written n k (again s 1 0 (omega arith) (omega arith)) started owed g h)) (λ k. simp (n, k) (again s started owed g h)))
+  where
+    written : eqb (capitalized x) 32 ≡ false → kept (capitalized x) ≡ true → pass 1 0 (pass 1 0 s) ≡ pass 1 0 s → (started owed : ℕ) → owed ≤ started → started ≤ 1
+        → pass started 0 (replicate owed 32 ++ capitalized x ∷ pass 1 0 s) ≡ replicate owed 32 ++ capitalized x ∷ pass 1 0 s
+    written n k r started zero g h = simp (capitalized-again x, n, k, r)
+    written n k r started (suc owed) g h =
+        let one : started ≡ 1 = omega arith in
+        let none : owed ≡ 0 = omega arith in
+        rw (one, none) (simp (capitalized-again x, n, k, r))
 
 -- cleaning a cleaned text changes nothing
 pub cleaned-again : (s : List ℕ) → cleaned (cleaned s) ≡ cleaned s
-cleaned-again s = simp cleaned-pass (again-start s)
+cleaned-again s = simp cleaned-pass (again s 0 0 (omega arith) (omega arith))
 
 pass-short : (s : List ℕ) (started owed : ℕ) → started ≤ 1 → length (pass started owed s) ≤ owed + length s
 unfolding pass
@@ -107,8 +95,3 @@ clean-fits s =
     let h : length s ≤ 1024 = leb-true _ _ t in
     simp (t, le-leb (length (cleaned s)) 1024 (omega (arith, cleaned-short s))))
     (λ f. simp f)
-
--- no refusal of a text has the number 0
-pub clean-numbered : (s : List ℕ) → Numbered (cleanText s)
-unfolding cleanText
-clean-numbered s = require-numbered (leb (length s) 1024) size (lit< tt) (done-numbered (cleaned s))

@@ -2,7 +2,7 @@
 use borrow.Author.Tests.{eqb-true, eq-eqb, ne-eqb}
 use mathlib.Core.Path.{_≡_, refl, sym, ap, _∙_}
 use mathlib.Core.Bool.{true, false}
-use mathlib.Core.List.{List, [], _∷_, _++_, append-nil}
+use mathlib.Core.List.{List, [], _∷_, _++_, append-nil, reverse, reverse-cons, reverse-append}
 use Prim.Native.Nat.{ℕ, zero, suc, _+_, _<_, _≤_}
 use native.Mathlib.Nat.{add-zero}
 use native.Mathlib.Numerals.{add-one}
@@ -14,7 +14,7 @@ use Rattle.lent.specs.Choice.{pick}
 use Rattle.lent.specs.Characters.{capitalized}
 use Rattle.lent.specs.Result.{over}
 use Rattle.lent.proofs.Laws.{cases}
-use Rattle.cleaning.specs.Cleaning.{kept, capitals, keptOnly, trimmedStart, trimmedEnd, trimmed, closedUp, cleaned, unlessLast, unlessDouble}
+use Rattle.cleaning.specs.Cleaning.{kept, capitals, keptOnly, trimmedStart, trimmedEnd, trimmed, closedUp, cleaned, unlessDouble}
 
 -- what is written for the rest of a text: `started` is 1 where a character was written before it, `owed` where a space is owed
 unfoldable pub pass : ℕ → ℕ → List ℕ → List ℕ
@@ -41,6 +41,32 @@ pass-spacing (x ∷ s) started owed =
     (λ n.
     cases (kept y) (λ k. simp (n, k, pass-spacing s 1 0)) (λ k. simp (n, k, pass-spacing s started owed)))
 
+-- a character before a text: a space before nothing goes
+abbrev unlessLast : ℕ → List ℕ → List ℕ
+unlessLast x [] = pick (eqb x 32) [] (x ∷ [])
+unlessLast x (y ∷ s) = x ∷ y ∷ s
+
+before-some : (x y : ℕ) (s : List ℕ) → unlessLast x (s ++ (y ∷ [])) ≡ x ∷ s ++ (y ∷ [])
+before-some x y [] = refl
+before-some x y (z ∷ s) = refl
+
+reversed-end : (s : List ℕ) (x : ℕ) → reverse (trimmedStart (s ++ (x ∷ []))) ≡ unlessLast x (reverse (trimmedStart s))
+unfolding trimmedStart
+reversed-end [] x = cases (eqb x 32) (λ e. simp e) (λ n. simp n)
+reversed-end (y ∷ s) x =
+    cases (eqb y 32) (λ e. simp e (reversed-end s x))
+    (λ n. simp n (reverse-append (y ∷ s) (x ∷ []) ∙ rw (reverse-cons y s) (sym (before-some x y (reverse s)))))
+
+-- spaces at the end go, from the first character on
+unfoldable withoutEnd : List ℕ → List ℕ
+withoutEnd [] = []
+withoutEnd (x ∷ s) = unlessLast x (withoutEnd s)
+
+end-is : (s : List ℕ) → trimmedEnd s ≡ withoutEnd s
+unfolding trimmedEnd withoutEnd trimmedStart
+end-is [] = refl
+end-is (x ∷ s) = rw (reverse-cons x s) (reversed-end (reverse s) x ∙ ap (unlessLast x) (end-is s))
+
 last-stays : (x : ℕ) (s : List ℕ) → eqb x 32 ≡ false → unlessLast x s ≡ x ∷ s
 last-stays x [] n = simp n
 last-stays x (y ∷ s) n = refl
@@ -59,37 +85,39 @@ two-spaces [] = refl
 two-spaces (x ∷ s) = double (unlessDouble x (closedUp s))
 
 mutual
-  unfolding spacing closedUp trimmedEnd
+  unfolding spacing closedUp withoutEnd
 
-  none-owed : (s : List ℕ) → spacing 1 0 s ≡ closedUp (trimmedEnd s)
+  none-owed : (s : List ℕ) → spacing 1 0 s ≡ closedUp (withoutEnd s)
   none-owed [] = refl
   none-owed (x ∷ s) =
       cases (eqb x 32)
-      (λ e. simp e (one-owed s ∙ ap (λ (y : ℕ). closedUp (unlessLast y (trimmedEnd s))) (sym (eqb-true x 32 e))))
-      (λ n. simp (n, last-stays x (trimmedEnd s) n, single-stays x (closedUp (trimmedEnd s)) n, none-owed s))
+      (λ e. simp e (one-owed s ∙ ap (λ (y : ℕ). closedUp (unlessLast y (withoutEnd s))) (sym (eqb-true x 32 e))))
+      (λ n. simp (n, last-stays x (withoutEnd s) n, single-stays x (closedUp (withoutEnd s)) n, none-owed s))
 
-  one-owed : (s : List ℕ) → spacing 1 1 s ≡ closedUp (trimmedEnd (32 ∷ s))
+  one-owed : (s : List ℕ) → spacing 1 1 s ≡ closedUp (withoutEnd (32 ∷ s))
   one-owed [] = refl
   one-owed (x ∷ s) =
       cases (eqb x 32)
       (λ e.
       simp e
       (one-owed s
-      ∙ sym (two-spaces (trimmedEnd s))
-      ∙ ap (λ (y : ℕ). closedUp (unlessLast 32 (unlessLast y (trimmedEnd s)))) (sym (eqb-true x 32 e))))
-      (λ n. simp (n, last-stays x (trimmedEnd s) n, single-stays x (closedUp (trimmedEnd s)) n, none-owed s))
+      ∙ sym (two-spaces (withoutEnd s))
+      ∙ ap (λ (y : ℕ). closedUp (unlessLast 32 (unlessLast y (withoutEnd s)))) (sym (eqb-true x 32 e))))
+      (λ n. simp (n, last-stays x (withoutEnd s) n, single-stays x (closedUp (withoutEnd s)) n, none-owed s))
 
-from-start : (s : List ℕ) → spacing 0 0 s ≡ closedUp (trimmed s)
-unfolding spacing trimmed trimmedStart closedUp trimmedEnd
+from-start : (s : List ℕ) → spacing 0 0 s ≡ closedUp (withoutEnd (trimmedStart s))
+unfolding spacing trimmedStart closedUp withoutEnd
 from-start [] = refl
 from-start (x ∷ s) =
     cases (eqb x 32) (λ e. simp e (from-start s))
-    (λ n. simp (n, last-stays x (trimmedEnd s) n, single-stays x (closedUp (trimmedEnd s)) n, none-owed s))
+    (λ n. simp (n, last-stays x (withoutEnd s) n, single-stays x (closedUp (withoutEnd s)) n, none-owed s))
 
 -- the pass does the four steps
 pub cleaned-pass : (s : List ℕ) → cleaned s ≡ pass 0 0 s
-unfolding cleaned
-cleaned-pass s = sym (pass-spacing s 0 0 ∙ from-start (keptOnly (capitals s)))
+unfolding cleaned trimmed
+cleaned-pass s =
+    let k = keptOnly (capitals s) in
+    ap closedUp (end-is (trimmedStart k)) ∙ sym (pass-spacing s 0 0 ∙ from-start k)
 
 -- a turn of the pass at a space
 pub pass-space : (x : ℕ) (s : List ℕ) (started owed : ℕ) → capitalized x ≡ 32 → pass started owed (x ∷ s) ≡ pass started started s

@@ -1,6 +1,6 @@
 -- Cleaning a text (01, The message and its MAC text; 5.2.3 of source documents 000 and 003).
 use mathlib.Core.Bool.{Bool}
-use mathlib.Core.List.{List, [], _∷_, map}
+use mathlib.Core.List.{List, [], _∷_, map, reverse}
 use Prim.Native.Nat.{ℕ}
 use lib.Dec.{leb, eqb}
 use lib.ListN.{length}
@@ -38,15 +38,9 @@ unfoldable pub trimmedStart : List ℕ → List ℕ
 trimmedStart [] = []
 trimmedStart (x ∷ s) = pick (eqb x space) (trimmedStart s) (x ∷ s)
 
--- a character before a text: a space before nothing goes
-abbrev pub unlessLast : ℕ → List ℕ → List ℕ
-unlessLast x [] = pick (eqb x space) [] (x ∷ [])
-unlessLast x (y ∷ s) = x ∷ y ∷ s
-
--- spaces at the end go
+-- spaces at the end go: those at the start, seen from the end
 unfoldable pub trimmedEnd : List ℕ → List ℕ
-trimmedEnd [] = []
-trimmedEnd (x ∷ s) = unlessLast x (trimmedEnd s)
+trimmedEnd s = reverse (trimmedStart (reverse s))
 
 -- spaces at both ends go
 unfoldable pub trimmed : List ℕ → List ℕ

@@ -51,7 +51,7 @@ fn write_cleaned(text: &[u8], out: &mut [u8]) -> usize
     n
 }
 
-// Cleans a text of at most 1,024 bytes into lent memory: 6, 13.
+// Cleans a text into lent memory: refuses with 6 if the text has more than 1,024 bytes, with 13 if the memory is shorter than the result.
 pub fn clean(text: &[u8], out: &mut [u8]) -> lent::Answer
     ensures { λ r. ⌜ Written (Cleaning.cleanText (now (text .entry))) (now (out .entry)) (r .number) (r .length) (now (out .exit)) ⌝ }
 {

@@ -6,8 +6,9 @@ ghost use lib.ListN.{length};
 // Writes a line to standard error: who it is, what failed, and errno's text. A name that is too long is left out.
 pub(crate) fn tell(who: &[u8], what: &[u8]) {
     let mut line = [0u8; 128];
-    let n = lent::append(&mut line, 0, who);
-    let k = lent::append(&mut line, n, what);
+    let name = lent::append(&mut line, 0, who);
+    let told = lent::append(&mut line, name.length, what);
+    let k = told.length;
     os::fail(&line[..k]);
 }
 

@@ -4,7 +4,7 @@ use Prim.Native.Nat.{ℕ, _%_}
 use lib.ListN.{getD}
 use Rattle.lent.specs.Refusals.{size}
 use Rattle.lent.specs.Result.{Result, refused}
-use Rattle.keyed.specs.Keyed.{encipherBlock, decipherBlock}
+use Rattle.keyed.specs.Keyed.{encryptBlock, decryptBlock}
 use Rattle.keyentry.specs.KeyEntry.{keyEntry}
 use Rattle.cleaning.specs.Cleaning.{cleanText}
 use Rattle.message.specs.Text.{messageText}
@@ -12,14 +12,15 @@ use Rattle.mac.specs.Mac.{textMac, messageMac}
 use Rattle.pinblock.specs.Entries as Pin
 use Rattle.card.specs.Entries as Card
 use Rattle.host.specs.Entries.{initialKey, hostKey}
-use Rattle.chizuregwo.specs.Calls.{loadedBytes}
+use Rattle.recordbytes.specs.Calls.{loadedBytes}
+use Rattle.meanings.specs.Meanings.{meaning}
 
 -- The answers of the table's entries, in its order, from the inputs a, b and c and the number x. (A sequence is below 2 to the power 32 and a
--- counter below 2 to the power 16.) The last entry, a terminal's next key, has its own promise, `Called` of the C library.
+-- counter below 2 to the power 16.) The last entry, a terminal's next key, has its own promise, `Called` of `recordbytes`.
 unfoldable pub answers : List ℕ → List ℕ → List ℕ → ℕ → List (Result (List ℕ))
 answers a b c x =
-    encipherBlock a b
-    ∷ decipherBlock a b
+    encryptBlock a b
+    ∷ decryptBlock a b
     ∷ keyEntry a (record { 0 = x })
     ∷ cleanText a
     ∷ messageText a
@@ -29,10 +30,10 @@ answers a b c x =
     ∷ Pin.makeWithCard a b
     ∷ Pin.read a
     ∷ Pin.readWithCard a b
-    ∷ Pin.encipher a b
-    ∷ Pin.encipherWithCard a b c
-    ∷ Pin.decipher a b
-    ∷ Pin.decipherWithCard a b c
+    ∷ Pin.encrypt a b
+    ∷ Pin.encryptWithCard a b c
+    ∷ Pin.decrypt a b
+    ∷ Pin.decryptWithCard a b c
     ∷ Card.derivationData a (x % 4294967296)
     ∷ Card.cardKey a b (x % 4294967296)
     ∷ Card.sessionKey a (x % 65536)
@@ -41,6 +42,7 @@ answers a b c x =
     ∷ initialKey a b
     ∷ hostKey a b
     ∷ loadedBytes a b
+    ∷ meaning (x % 4294967296)
     ∷ []
 
 -- the answer of the entry at a place

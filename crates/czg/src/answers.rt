@@ -1,4 +1,4 @@
-// The lines of the answers, one behind the other in a buffer.
+// The lines of the answers, one after the other in a buffer.
 use crate::faults::MISSING;
 use crate::faults::NO_NAME;
 use crate::faults::NO_ROOM;
@@ -8,12 +8,16 @@ use crate::faults::TOO_MANY;
 ghost use Prim.Native.Nat.{_≤_};
 ghost use lib.ListN.{length};
 
-// Puts a text behind the first n bytes.
+// Puts a text after the first n bytes; a text for which there is no room is left out.
 pub(crate) fn put(out: &mut [u8], n: usize, text: &[u8]) -> usize
     requires { ⌜ n ≤ length (now out) ⌝ }
     ensures { λ r. ⌜ r ≤ length (now (out .exit)) ⌝ }
 {
-    lent::append(out, n, text)
+    let written = lent::append(out, n, text);
+    if written.number != lent::DONE {
+        return n;
+    }
+    written.length
 }
 
 // Puts the hexadecimal digits of bytes, in capitals.

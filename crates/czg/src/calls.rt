@@ -4,7 +4,6 @@ use crate::answers::put_refused;
 use crate::answers::put_value;
 use crate::inputs::Inputs;
 use crate::requests::Rooms;
-use chizuregwo::answers::Answer;
 use chizuregwo::cards;
 use chizuregwo::ciphers;
 use chizuregwo::hosts;
@@ -18,10 +17,10 @@ ghost use Rattle.czg.specs.Calls.{answerAt};
 ghost use Rattle.czg.specs.Private.{Within, answerFor};
 
 // The place of `terminal-next-key`, which has two values and a record to be changed.
-pub(crate) const NEXT_KEY: usize = 23;
+pub(crate) const NEXT_KEY: usize = 24;
 
 // The cipher, key entry, texts and MACs.
-fn text_entry(place: usize, a: &[u8], b: &[u8], c: &[u8], x: u64, out: &mut [u8]) -> Answer
+fn text_entry(place: usize, a: &[u8], b: &[u8], c: &[u8], x: u64, out: &mut [u8]) -> lent::Answer
     requires { ⌜ place < 7 ⌝ }
     ensures { λ r. ⌜ Written (answerAt place (now (a .entry)) (now (b .entry)) (now (c .entry)) x) (now (out .entry)) (r .number) (r .length) (now (out .exit)) ⌝ }
 {
@@ -37,7 +36,7 @@ fn text_entry(place: usize, a: &[u8], b: &[u8], c: &[u8], x: u64, out: &mut [u8]
 }
 
 // PIN blocks.
-fn pin_entry(place: usize, a: &[u8], b: &[u8], c: &[u8], x: u64, out: &mut [u8]) -> Answer
+fn pin_entry(place: usize, a: &[u8], b: &[u8], c: &[u8], x: u64, out: &mut [u8]) -> lent::Answer
     requires { ⌜ (7 ≤ place) × (place < 15) ⌝ }
     ensures { λ r. ⌜ Written (answerAt place (now (a .entry)) (now (b .entry)) (now (c .entry)) x) (now (out .entry)) (r .number) (r .length) (now (out .exit)) ⌝ }
 {
@@ -46,16 +45,16 @@ fn pin_entry(place: usize, a: &[u8], b: &[u8], c: &[u8], x: u64, out: &mut [u8])
         8 => pins::czg_pin_make_with_card(a, b, out),
         9 => pins::czg_pin_read(a, out),
         10 => pins::czg_pin_read_with_card(a, b, out),
-        11 => pins::czg_pin_encipher(a, b, out),
-        12 => pins::czg_pin_encipher_with_card(a, b, c, out),
-        13 => pins::czg_pin_decipher(a, b, out),
-        _ => pins::czg_pin_decipher_with_card(a, b, c, out),
+        11 => pins::czg_pin_encrypt(a, b, out),
+        12 => pins::czg_pin_encrypt_with_card(a, b, c, out),
+        13 => pins::czg_pin_decrypt(a, b, out),
+        _ => pins::czg_pin_decrypt_with_card(a, b, c, out),
     }
 }
 
-// A card's keys and cryptograms; the host's derivations; the loading of a terminal. A sequence and a counter are in their range, as they were read.
-fn key_entry(place: usize, a: &[u8], b: &[u8], c: &[u8], x: u64, out: &mut [u8]) -> Answer
-    requires { ⌜ (15 ≤ place) × (place < 23) ⌝ }
+// A card's keys and cryptograms; the host's derivations; the loading of a terminal; a number's meaning. Numbers are in their range, as they were read.
+fn key_entry(place: usize, a: &[u8], b: &[u8], c: &[u8], x: u64, out: &mut [u8]) -> lent::Answer
+    requires { ⌜ (15 ≤ place) × (place < 24) ⌝ }
     ensures { λ r. ⌜ Written (answerAt place (now (a .entry)) (now (b .entry)) (now (c .entry)) x) (now (out .entry)) (r .number) (r .length) (now (out .exit)) ⌝ }
 {
     match place {
@@ -66,13 +65,14 @@ fn key_entry(place: usize, a: &[u8], b: &[u8], c: &[u8], x: u64, out: &mut [u8])
         19 => cards::czg_arpc(a, b, c, out),
         20 => hosts::czg_initial_key(a, b, out),
         21 => hosts::czg_host_key(a, b, out),
-        _ => terminals::czg_terminal_load(a, b, out),
+        22 => terminals::czg_terminal_load(a, b, out),
+        _ => messages::czg_meaning((x % 4294967296) as u32, out),
     }
 }
 
 // Calls an entry that writes one value.
-fn call(place: usize, a: &[u8], b: &[u8], c: &[u8], x: u64, out: &mut [u8]) -> Answer
-    requires { ⌜ place < 23 ⌝ }
+fn call(place: usize, a: &[u8], b: &[u8], c: &[u8], x: u64, out: &mut [u8]) -> lent::Answer
+    requires { ⌜ place < 24 ⌝ }
     ensures { λ r. ⌜ Written (answerAt place (now (a .entry)) (now (b .entry)) (now (c .entry)) x) (now (out .entry)) (r .number) (r .length) (now (out .exit)) ⌝ }
 {
     if place < 7 {
@@ -87,7 +87,7 @@ fn call(place: usize, a: &[u8], b: &[u8], c: &[u8], x: u64, out: &mut [u8]) -> A
 // Whether an entry's value is a text or the digits of a PIN.
 fn is_text(place: usize) -> bool {
     match place {
-        3 | 4 | 9 | 10 | 13 | 14 => true,
+        3 | 4 | 9 | 10 | 13 | 14 | 23 => true,
         _ => false,
     }
 }
@@ -106,8 +106,8 @@ fn put_answer(out: &mut [u8], n: usize, text: bool, number: u32, value: &[u8]) -
 }
 
 // Calls an entry that writes one value, on the bytes of the inputs, with so much room lent to it.
-fn call_with_room(place: usize, i: Inputs, room: usize, bytes: &[u8], value: &mut [u8]) -> Answer
-    requires { ⌜ place < 23 ⌝ }
+fn call_with_room(place: usize, i: Inputs, room: usize, bytes: &[u8], value: &mut [u8]) -> lent::Answer
+    requires { ⌜ place < 24 ⌝ }
     requires { ⌜ Within i (length (now bytes)) ⌝ }
     requires { ⌜ room ≤ length (now value) ⌝ }
     ensures { λ r. ⌜ Written (answerFor place i (now (bytes .entry))) (take room (now (value .entry))) (r .number) (r .length) (take room (now (value .exit))) ⌝ }
@@ -127,7 +127,7 @@ fn call_with_room(place: usize, i: Inputs, room: usize, bytes: &[u8], value: &mu
 
 // Answers a request with one value.
 fn answer_one(place: usize, i: Inputs, room: usize, bytes: &[u8], out: &mut [u8], n: usize) -> usize
-    requires { ⌜ place < 23 ⌝ }
+    requires { ⌜ place < 24 ⌝ }
     requires { ⌜ Within i (length (now bytes)) ⌝ }
     requires { ⌜ room ≤ 1024 ⌝ }
     requires { ⌜ n ≤ length (now out) ⌝ }
@@ -135,7 +135,7 @@ fn answer_one(place: usize, i: Inputs, room: usize, bytes: &[u8], out: &mut [u8]
 {
     let mut value = io::buffer();
     let answer = call_with_room(place, i, room, bytes, &mut value);
-    let length = answer.length as usize;
+    let length = answer.length;
     put_answer(out, n, is_text(place), answer.number, &value[..length])
 }
 

@@ -92,6 +92,9 @@ fn most_number(word: &[u8]) -> u64 {
     if is(word, b"SEQUENCE") {
         return 4294967295;
     }
+    if is(word, b"NUMBER") {
+        return 4294967295;
+    }
     if is(word, b"COUNTER") {
         return 65535;
     }

@@ -36,10 +36,10 @@ pin-make PIN
 pin-make-with-card PIN CARD
 pin-read BLOCK
 pin-read-with-card BLOCK CARD
-pin-encipher PIN KEY
-pin-encipher-with-card PIN CARD KEY
-pin-decipher BLOCK KEY
-pin-decipher-with-card BLOCK CARD KEY
+pin-encrypt KEY PIN
+pin-encrypt-with-card KEY PIN CARD
+pin-decrypt KEY BLOCK
+pin-decrypt-with-card KEY BLOCK CARD
 derivation-data CARD SEQUENCE
 card-key MASTER-KEY CARD SEQUENCE
 session-key CARD-KEY COUNTER
@@ -48,9 +48,10 @@ arpc SESSION-KEY ARQC CODE
 initial-key DERIVATION-KEY SERIAL-NUMBER
 host-key DERIVATION-KEY SERIAL-NUMBER
 terminal-load INITIAL-KEY SERIAL-NUMBER
+meaning NUMBER
 terminal-next-key RECORD
 # A request is one of these on a line, single spaces between: PIN and CARD as such, TEXT as such to the end of the line,
-# SIZE, SEQUENCE and COUNTER in decimal, any other in hexadecimal, - for no bytes. PIN, CARD and TEXT of any bytes: hex: and hexadecimal.
+# SIZE, SEQUENCE, COUNTER and NUMBER in decimal, any other in hexadecimal, - for no bytes. PIN, CARD and TEXT of any bytes: hex: and hexadecimal.
 # NAME@ROOM lends so many bytes for the result. NAME/LABEL names a case. Answers: done and the values, refused and the number, unknown and why.
 ";
     if asked(table) {

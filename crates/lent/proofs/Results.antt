@@ -6,7 +6,7 @@ use mathlib.Core.List.{List, append-nil}
 use Prim.Native.Nat.{ℕ, _≤_}
 use native.Mathlib.Omega.{arith}
 use lib.Dec.{leb}
-use lib.ListN.{length, take, drop, replicate, length-append, drop-of-length-le}
+use lib.ListN.{length, take, drop, replicate, length-append, length-drop, drop-of-length-le}
 use lib.Seq.{take-append-seam}
 use Rattle.lent.proofs.Laws.{cases, never}
 use Rattle.lent.specs.Refusals.{Refusal, numberOf, cutShort, fieldOrder, messageType, fieldForm, emptyText, size, character, noSuchPin, equalHalves, badCounter, badRecord, exhausted, shortBuffer}
@@ -105,6 +105,18 @@ module _ {answer : Result (List ℕ)} {before after : List ℕ} {num len : ℕ} 
       decided : (r : Result (List ℕ)) → answer ≡ r → Refuses num answer
       decided (done v) e = absurd (h (w .number ∙ ap number (room ∙ e)))
       decided (refused why) e = (why, w .number ∙ ap number (room ∙ e), e)
+
+lent-within : (room : ℕ) (answer : Result (List ℕ)) → length (bytes (lend room answer)) ≤ room
+lent-within room (refused why) = omega arith
+lent-within room (done v) = cases (leb (length v) room) (λ h. rw h (leb-true (length v) room h)) (λ h. rw h (omega arith))
+
+-- a call writes no more than there is room for, and leaves as much memory as there was
+pub written-within : {answer : Result (List ℕ)} {before after : List ℕ} {num len : ℕ} → Written answer before num len after → len ≤ length before
+written-within {answer} {before} w = rw (w .value) (lent-within (length before) answer)
+
+pub written-length : {answer : Result (List ℕ)} {before after : List ℕ} {num len : ℕ} → Written answer before num len after → length after ≡ length before
+written-length {answer} {before} w =
+    rw (w .memory, length-append, length-drop) (omega (arith, lent-within (length before) answer))
 
 -- there was room for the value
 pub lent-all : {v before after : List ℕ} {num len : ℕ} → length v ≤ length before → Written (done v) before num len after → after ≡ over v before

@@ -1,21 +1,20 @@
--- Laws of the MACs: messages that agree on the listed fields have the same MAC, the MAC of a message is that of its text, and no refusal has the
--- number 0.
-use mathlib.Core.Path.{_≡_, ap, _∙_}
+-- Laws of the MACs: a message that is not refused has a MAC, which is that of its text, and messages that agree on the listed fields have the same.
+use borrow.Author.Tests.{eq-eqb, le-leb, lt-ltb}
+use mathlib.Core.Path.{_≡_, refl, sym, ap, _∙_}
+use mathlib.Core.Bool.{true}
 use mathlib.Core.List.{List}
-use borrow.Author.Tests.{lt-ltb}
 use Prim.Native.Nat.{ℕ, _≤_}
-use native.Mathlib.Omega.{arith}
-use lib.Dec.{eqb, ltb, lit<}
-use lib.ListN.{length}
-use Rattle.lent.specs.Refusals.{emptyText}
-use Rattle.lent.specs.Result.{done}
-use Rattle.lent.proofs.Results.{Numbered, done-numbered, require-numbered, then-numbered, size-numbered}
-use Rattle.cleaning.specs.Cleaning.{cleanText}
-use Rattle.cleaning.proofs.Laws.{clean-done, clean-numbered}
+use lib.Dec.{eqb, leb}
+use lib.ListN.{length, take, replicate}
+use Rattle.lent.specs.Result.{Result, done, refused, number, andThen, lend, over, Answered, Written}
+use Rattle.lent.proofs.Laws.{cases}
+use Rattle.lent.proofs.Results.{Refuses, same-done, written-zero, written-done}
 use Rattle.message.specs.Records.{Field, messageFields}
 use Rattle.message.specs.Text.{messageText, Agree}
-use Rattle.message.proofs.Laws.{same-text, text-cleaned, never-empty, at-most-166, text-numbered}
-use Rattle.mac.specs.Mac.{cleanedMac, textMac, messageMac}
+use Rattle.message.proofs.Laws.{same-text, never-empty, at-most-166}
+use Rattle.message.proofs.Results.{refuses-then}
+use Rattle.mac.specs.declared.TextMac.{TextMac}
+use Rattle.mac.specs.Mac.{macOf, cleanedMac, messageMac, messageTextAndMac, lendText, TextAndMac}
 
 -- two accepted messages that agree on the listed fields have, under one key, the same MAC
 pub same-mac : (key m k : List ℕ) (fs gs : List Field)
@@ -23,23 +22,78 @@ pub same-mac : (key m k : List ℕ) (fs gs : List Field)
 unfolding messageMac
 same-mac key m k fs gs e f a = rw (same-text m k fs gs e f a)
 
--- the MAC of a message is the MAC of its text as free text, since it is cleaned already, not empty and short
-pub mac-of-text : (key m t : List ℕ) → messageText m ≡ done t → messageMac key m ≡ textMac key t
-unfolding textMac messageMac cleanedMac
-mac-of-text key m t e =
-    let short : length t ≤ 1024 = omega (arith, at-most-166 m t e) in
-    let clean : cleanText t ≡ done t = clean-done t short ∙ ap done (text-cleaned m t e) in
-    simp (e, clean, lt-ltb _ _ (never-empty m t e))
+-- under a key of 8 bytes, a message's text has a MAC: it is never empty
+pub text-and-mac : (key m : List ℕ) → length key ≡ 8
+    → messageTextAndMac key m ≡ andThen (messageText m) (λ text. done (text, macOf key text))
+unfolding messageTextAndMac messageMac cleanedMac
+text-and-mac key m e = decided (messageText m) refl
+  where
+    decided : (r : Result (List ℕ)) → messageText m ≡ r → messageTextAndMac key m ≡ andThen r (λ text. done (text, macOf key text))
+    decided (done t) d = simp (eq-eqb _ _ e, d, lt-ltb _ _ (never-empty m t d))
+    decided (refused why) d = simp (eq-eqb _ _ e, d)
 
--- ---- no refusal has the number 0
+-- a message's MAC is the one that is answered with its text, for which 166 bytes are enough
+mac-alone : (key m : List ℕ) → andThen (lendText 166 (messageTextAndMac key m)) (λ a. done (a .1)) ≡ messageMac key m
+unfolding messageTextAndMac messageMac cleanedMac
+mac-alone key m = cases (eqb (length key) 8) (λ k. decided k (messageText m) refl) (λ n. simp n)
+  where
+    decided : eqb (length key) 8 ≡ true → (r : Result (List ℕ)) → messageText m ≡ r
+        → andThen (lendText 166 (messageTextAndMac key m)) (λ a. done (a .1)) ≡ messageMac key m
+    decided k (done t) d = simp (k, d, lt-ltb _ _ (never-empty m t d), le-leb _ _ (at-most-166 m t d))
+    decided k (refused why) d = simp (k, d)
 
-pub text-mac-numbered : (key text : List ℕ) → Numbered (textMac key text)
-unfolding textMac cleanedMac
-text-mac-numbered key text =
-    size-numbered (eqb (length key) 8)
-    (then-numbered (cleanText text) (cleanedMac key) (clean-numbered text) (λ t. require-numbered (ltb 0 (length t)) emptyText (lit< tt) (done-numbered _)))
+number-alone : (r : Result (List ℕ × List ℕ)) → number r ≡ number (andThen r (λ a. done (a .1)))
+number-alone (done a) = refl
+number-alone (refused why) = refl
 
-pub message-mac-numbered : (key message : List ℕ) → Numbered (messageMac key message)
-unfolding messageMac
-message-mac-numbered key message =
-    size-numbered (eqb (length key) 8) (then-numbered (messageText message) _ (text-numbered message) (λ t. done-numbered _))
+pub answered-alone : (key m : List ℕ) {before after val : List ℕ} {num len : ℕ} → length before ≡ 166
+    → TextAndMac (messageTextAndMac key m) before num len val after → Answered 8 (messageMac key m) num val
+answered-alone key m l w =
+    let e = mac-alone key m in
+    record {
+      number = rw l at (w .number) ∙ number-alone (lendText 166 (messageTextAndMac key m)) ∙ ap number e;
+      value = rw (l, e) at (w .mac);
+    }
+
+-- ---- what is left in lent memory
+
+-- the number of a refusal
+numbered : {A : Type 0} (r : Result A) (num : ℕ) → num ≡ number r → (num ≡ 0 → ⊥) → Refuses num r
+numbered (done a) num e z = absurd (z e)
+numbered (refused why) num e z = (why, e, refl)
+
+-- a refusal is answered, and leaves lent memory as it was
+pub refused-both : {answer : Result (List ℕ × List ℕ)} {before : List ℕ} {num : ℕ} {r : TextMac}
+    → r ≡ record { number = num; length = 0; mac = replicate 8 0 } → Refuses num (lendText (length before) answer)
+    → TextAndMac answer before (r .number) (r .length) (r .mac) before
+refused-both h (why, en, e) = rw h (record { number = rw e en; text = rw e; mac = rw e; memory = rw e })
+
+-- a text that was lent, with its MAC
+lent-is : (key : List ℕ) (room : ℕ) (r : Result (List ℕ))
+    → lendText room (andThen r (λ text. done (text, macOf key text))) ≡ andThen (lend room r) (λ text. done (text, macOf key text))
+lent-is key room (done t) = cases (leb (length t) room) (λ h. simp h) (λ h. simp h)
+lent-is key room (refused why) = refl
+
+module _ (key m : List ℕ) (long : length key ≡ 8) {before after : List ℕ} {num len : ℕ} (w : Written (messageText m) before num len after) where
+  lent-both : lendText (length before) (messageTextAndMac key m) ≡ andThen (lend (length before) (messageText m)) (λ text. done (text, macOf key text))
+  lent-both = rw (text-and-mac key m long) (lent-is key (length before) (messageText m))
+
+  -- the text was refused, or had no room
+  pub both-refused : (num ≡ 0 → ⊥) → Refuses num (lendText (length before) (messageTextAndMac key m)) × (after ≡ before)
+  both-refused z = let q = numbered (lend (length before) (messageText m)) num (w .number) z in (rw lent-both (refuses-then _ q), kept q)
+    where
+      kept : Refuses num (lend (length before) (messageText m)) → after ≡ before
+      kept (why, en, e) = rw e at (w .memory)
+
+  -- the text was written
+  pub both-written : {val : List ℕ} → num ≡ 0 → val ≡ macOf key (take len after) → TextAndMac (messageTextAndMac key m) before 0 len val after
+  both-written {val = val} z em =
+      let k = written-zero w z in
+      written (k .0) (k .1) (k .2) (k .3) (k .4) (em ∙ ap (macOf key) (same-done (sym (written-done w z .0) ∙ k .1)))
+    where
+      written : (v : List ℕ) → messageText m ≡ done v → length v ≤ length before → len ≡ length v → after ≡ over v before → val ≡ macOf key v
+          → TextAndMac (messageTextAndMac key m) before 0 len val after
+      written v d h el ea ev =
+          let lent : lend (length before) (messageText m) ≡ done v = ap (lend (length before)) d ∙ rw (le-leb _ _ h) in
+          let e = lent-both ∙ ap (λ (r : Result (List ℕ)). andThen r (λ text. done (text, macOf key text))) lent in
+          record { number = rw e; text = rw e el; mac = rw e ev; memory = rw e ea }

@@ -1,11 +1,12 @@
 -- The MAC of a text under a single key (01, The message and its MAC text): ISO/IEC 9797-1, algorithm 1, over DES, all eight bytes. The text is
 -- filled with zero bytes up to a multiple of 8; nothing is added if it already is one.
+use mathlib.Core.Path.{_≡_}
 use mathlib.Core.List.{List}
 use Prim.Native.Nat.{ℕ}
-use lib.Dec.{eqb, ltb}
+use lib.Dec.{eqb, leb, ltb}
 use lib.ListN.{length}
-use Rattle.lent.specs.Refusals.{size, emptyText}
-use Rattle.lent.specs.Result.{Result, done, require, andThen}
+use Rattle.lent.specs.Refusals.{size, emptyText, shortBuffer}
+use Rattle.lent.specs.Result.{Result, done, require, andThen, bytes, fixed, over}
 use Rattle.lent.specs.Words.{word, wordBytes}
 use Rattle.chaining.specs.Chain.{chained}
 use Rattle.cleaning.specs.Cleaning.{cleanText}
@@ -23,6 +24,30 @@ cleanedMac key text = require (ltb 0 (length text)) emptyText (done (macOf key t
 unfoldable pub textMac : List ℕ → List ℕ → Result (List ℕ)
 textMac key text = require (eqb (length key) 8) size (andThen (cleanText text) (cleanedMac key))
 
--- the MAC of a message: 6, then the message's own refusals
+-- the MAC of a message: 6, then the message's own refusals, 5
 unfoldable pub messageMac : List ℕ → List ℕ → Result (List ℕ)
-messageMac key message = require (eqb (length key) 8) size (andThen (messageText message) (λ text. done (macOf key text)))
+messageMac key message = require (eqb (length key) 8) size (andThen (messageText message) (cleanedMac key))
+
+-- the text of a message and its MAC, refused as the MAC is
+unfoldable pub messageTextAndMac : List ℕ → List ℕ → Result (List ℕ × List ℕ)
+messageTextAndMac key message = andThen (messageMac key message) (λ mac. andThen (messageText message) (λ text. done (text, mac)))
+
+-- a text that is longer than the room lent for it is refused
+abbrev pub lendText : ℕ → Result (List ℕ × List ℕ) → Result (List ℕ × List ℕ)
+lendText room answer = andThen answer (λ a. require (leb (length (a .0)) room) shortBuffer (done a))
+
+-- the text; a refusal has none
+abbrev pub textIn : Result (List ℕ × List ℕ) → List ℕ
+textIn answer = bytes (andThen answer (λ a. done (a .0)))
+
+-- the MAC; a refusal's is zeros
+abbrev pub macIn : Result (List ℕ × List ℕ) → List ℕ
+macIn answer = fixed 8 (andThen answer (λ a. done (a .1)))
+
+-- The promise of an entry that writes a text into lent memory and answers its MAC: the number, the text's length, the MAC, and the memory
+-- afterwards.
+pub record TextAndMac (answer : Result (List ℕ × List ℕ)) (before : List ℕ) (num len : ℕ) (val after : List ℕ) : Type 0 where
+  pub number : num ≡ Rattle.lent.specs.Result.number (lendText (length before) answer)
+  pub text : len ≡ length (textIn (lendText (length before) answer))
+  pub mac : val ≡ macIn (lendText (length before) answer)
+  pub memory : after ≡ over (textIn (lendText (length before) answer)) before

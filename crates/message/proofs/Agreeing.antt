@@ -11,8 +11,11 @@ use lib.Dec.{leb, eqb}
 use Rattle.lent.specs.Choice.{pick}
 use Rattle.lent.proofs.Laws.{cases, never}
 use Rattle.message.specs.Fields.{listed}
-use Rattle.message.specs.Records.{Field, highestField}
+use Rattle.message.specs.declared.records.Place.{Place}
+use Rattle.message.specs.declared.records.Place.the-variants.{First, After}
+use Rattle.message.specs.Records.{Field}
 use Rattle.message.specs.Text.{listedOnly, bodyIn, Agree}
+use Rattle.message.proofs.Reading.{lowest, lowest-is}
 use Rattle.message.proofs.Rising.{Rising}
 
 -- the numbers rise
@@ -20,9 +23,9 @@ abbrev Sorted : ℕ → List Field → Type 0
 Sorted lowest [] = Unit
 Sorted lowest (f ∷ fs) = (lowest ≤ f .number) × Sorted (f .number + 1) fs
 
-rising-sorted : (lowest highest : ℕ) (fs : List Field) → Rising lowest highest fs → Sorted lowest fs
-rising-sorted lowest highest [] r = tt
-rising-sorted lowest highest (f ∷ fs) r = (r .0, rising-sorted (f .number + 1) highestField fs (r .3))
+rising-sorted : (place : Place) (fs : List Field) → Rising place fs → Sorted (lowest place) fs
+rising-sorted place [] r = tt
+rising-sorted place (f ∷ fs) r = (lowest-is place (f .number) (r .0), rising-sorted (After (f .number)) fs (r .2))
 
 weaker : (fs : List Field) (a b : ℕ) → a ≤ b → Sorted b fs → Sorted a fs
 weaker [] a b h r = tt
@@ -72,7 +75,7 @@ first-same f g fs gs t e =
     let body : f .body ≡ g .body = cc (present f fs, e (f .number), there) in
     ap (λ (k : ℕ). record { number = k; body = f .body }) t ∙ ap (λ (x : List ℕ). record { number = g .number; body = x }) body
 
--- and so are the bodies of those behind them
+-- and so are the bodies of those after them
 rest-same : (f g : Field) (fs gs : List Field) → f .number ≡ g .number → Sorted (f .number + 1) fs → Sorted (g .number + 1) gs
     → ((n : ℕ) → bodyIn n (f ∷ fs) ≡ bodyIn n (g ∷ gs)) → (n : ℕ) → bodyIn n fs ≡ bodyIn n gs
 rest-same f g fs gs t r q e n =
@@ -105,7 +108,7 @@ same (f ∷ fs) (g ∷ gs) a b r q e =
     (λ l. absurd (lower g f gs fs (r .1) (leb-false _ _ l) (sym (e (g .number))))))
 
 -- fields that rise and agree on the listed ones have the same listed fields
-pub listed-same : (fs gs : List Field) → Rising 0 0 fs → Rising 0 0 gs → Agree fs gs → listedOnly fs ≡ listedOnly gs
+pub listed-same : (fs gs : List Field) → Rising First fs → Rising First gs → Agree fs gs → listedOnly fs ≡ listedOnly gs
 listed-same fs gs r q a =
-    same (listedOnly fs) (listedOnly gs) 0 0 (listed-sorted fs 0 (rising-sorted 0 0 fs r)) (listed-sorted gs 0 (rising-sorted 0 0 gs q))
+    same (listedOnly fs) (listedOnly gs) 0 0 (listed-sorted fs 0 (rising-sorted First fs r)) (listed-sorted gs 0 (rising-sorted First gs q))
     (λ n. bodyIn-listed fs n ∙ cases (listed n) (λ t. simp t (a n t)) (λ u. simp u) ∙ sym (bodyIn-listed gs n))

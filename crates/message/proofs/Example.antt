@@ -3,10 +3,12 @@ use mathlib.Core.Path.{_≡_, refl}
 use mathlib.Core.List.{List, [], _∷_}
 use Prim.Native.Nat.{ℕ}
 use Rattle.lent.specs.Characters.{capitalized}
+use Rattle.lent.specs.Refusals.{fieldForm}
+use Rattle.lent.specs.Words.{toBase}
 use Rattle.lent.specs.Result.{done, refused}
 use Rattle.cleaning.specs.Cleaning.{capitals, kept, keptOnly, trimmedStart, trimmedEnd, trimmed, closedUp, cleaned}
-use Rattle.message.specs.Fields.{table, ruleIn, rule, letterOrDigit, permitted, permittedFrom, formed}
-use Rattle.message.specs.Records.{littleEndian, bodyOf, knownType, judged, records, messageFields}
+use Rattle.message.specs.Fields.{table, ruleIn, rule, shaped, formed}
+use Rattle.message.specs.Records.{littleEndian, fieldOf, knownType, checkedField, recordField, records, messageFields}
 use Rattle.message.specs.Text.{entered, listedOnly, joined, textOf, messageText}
 
 -- fields 0, 3 and 41: 0200, 000000 and `a-1` with five spaces
@@ -22,10 +24,10 @@ text =
     0x30 ∷ 0x32 ∷ 0x30 ∷ 0x30 ∷ 0x20 ∷ 0x30 ∷ 0x30 ∷ 0x30 ∷ 0x30 ∷ 0x30 ∷ 0x30 ∷ 0x20 ∷ 0x41 ∷ 0x31 ∷ []
 
 whole-case : messageText message ≡ done text
-unfolding message text capitalized capitals kept keptOnly trimmedStart trimmedEnd trimmed closedUp cleaned table ruleIn rule letterOrDigit permitted permittedFrom formed littleEndian bodyOf knownType judged records messageFields entered listedOnly joined textOf messageText
+unfolding message text capitalized toBase capitals kept keptOnly trimmedStart trimmedEnd trimmed closedUp cleaned table ruleIn rule shaped formed littleEndian fieldOf knownType checkedField recordField records messageFields entered listedOnly joined textOf messageText
 whole-case = refl
 
 -- 03x0 is 4, not 3
-form-before-type : messageText (0x04 ∷ 0x00 ∷ 0x00 ∷ 0x00 ∷ 0x30 ∷ 0x33 ∷ 0x78 ∷ 0x30 ∷ []) ≡ refused 4
-unfolding table ruleIn rule permitted permittedFrom formed littleEndian bodyOf knownType judged records messageFields messageText
+form-before-type : messageText (0x04 ∷ 0x00 ∷ 0x00 ∷ 0x00 ∷ 0x30 ∷ 0x33 ∷ 0x78 ∷ 0x30 ∷ []) ≡ refused fieldForm
+unfolding table ruleIn rule shaped formed littleEndian fieldOf knownType checkedField recordField records messageFields messageText
 form-before-type = refl

@@ -1,28 +1,29 @@
 -- Laws on a message's text that other crates cite: it has at most 166 characters, it is never empty, and it is the same for messages
 -- that agree on the listed fields.
-use borrow.Author.Tests.{le-leb}
+use borrow.Author.Tests.{le-leb, eqb-true}
 use mathlib.Core.Path.{_≡_, refl, sym, ap, _∙_}
 use mathlib.Core.Bool.{true}
 use mathlib.Core.List.{List, [], _∷_, _++_, map}
-use Prim.Native.Nat.{ℕ, zero, suc, _+_, _<_, _≤_}
+use Prim.Native.Nat.{ℕ, _+_, _<_, _≤_}
 use native.Mathlib.Omega.{arith}
-use lib.Dec.{leb, ltb, lit<}
 use lib.ListN.{length, length-append}
-use Rattle.lent.specs.Choice.{between}
+use Rattle.lent.specs.Choice.{between, all}
 use Rattle.lent.specs.Characters.{digit}
-use Rattle.lent.specs.Refusals.{cutShort, fieldOrder, fieldForm, messageType, size}
+use Rattle.lent.specs.declared.characters.Kind.the-variants.{Digits}
 use Rattle.lent.specs.Result.{Result, done, refused, lend}
 use Rattle.lent.proofs.Laws.{both-true, between-true}
+use Rattle.lent.proofs.Results.{then-done, same-done}
 use Rattle.cleaning.specs.Cleaning.{cleaned}
 use Rattle.cleaning.proofs.Laws.{cleaned-again, cleaned-short, cleaned-digit}
-use Rattle.message.specs.declared.fields.Kind.the-variants.{Digits}
+use Rattle.message.specs.declared.fields.Shape.the-variants.{All}
 use Rattle.message.specs.declared.fields.Entry.the-variants.{Whole}
 use Rattle.message.specs.declared.fields.Rule.the-variants.{Listed}
-use Rattle.message.specs.Fields.{table, ruleIn, rule, permitted, permittedFrom, formed}
-use Rattle.message.specs.Records.{Field, bodySize, fieldNumber, bodyOf, fieldOf, knownType, judged, records, messageFields, highestField}
+use Rattle.message.specs.declared.records.Place.{Place}
+use Rattle.message.specs.declared.records.Place.the-variants.{First, After}
+use Rattle.message.specs.Fields.{table, ruleIn, rule, shaped, formed}
+use Rattle.message.specs.Records.{Field, messageFields}
 use Rattle.message.specs.Text.{entered, shownField, listedOnly, joined, textOf, messageText, Agree}
-use Rattle.message.specs.Gathered.{led, spaced}
-use Rattle.lent.proofs.Results.{then-done, same-done, Numbered, done-numbered, require-numbered, then-numbered}
+use Rattle.message.specs.Gathered.{spaceBeforeEach, spaced}
 use Rattle.message.proofs.Room.{room, room-short, room-grows}
 use Rattle.message.proofs.Joining.{joined-short}
 use Rattle.message.proofs.Walking.{spaced-next}
@@ -36,12 +37,12 @@ fields-of m t e =
     let k = then-done (messageFields m) _ t e in
     (k .0, k .1, same-done (k .2))
 
-spaced-short : (fs : List Field) (lowest highest : ℕ) → highest ≤ highestField → Rising lowest highest fs → room lowest + length (spaced fs) ≤ 167
-unfolding spaced led listedOnly
-spaced-short [] lowest highest h r = omega (arith, room-short lowest r)
-spaced-short (f ∷ fs) lowest highest h r =
+spaced-short : (fs : List Field) (place : Place) → Rising place fs → room place + length (spaced fs) ≤ 167
+unfolding spaced spaceBeforeEach listedOnly
+spaced-short [] place r = omega (arith, room-short place)
+spaced-short (f ∷ fs) place r =
     rw (spaced-next f fs, length-append)
-    (omega (arith, room-grows lowest (f .number) (f .body) (r .0) (r .2), spaced-short fs (f .number + 1) highestField (omega arith) (r .3)))
+    (omega (arith, room-grows place (f .number) (f .body) (r .0) (r .1), spaced-short fs (After (f .number)) (r .2)))
 
 -- a message's text has at most 166 characters
 pub at-most-166 : (m t : List ℕ) → messageText m ≡ done t → length t ≤ 166
@@ -54,7 +55,7 @@ at-most-166 m t e =
       ap length (k .2),
       cleaned-short (joined ss),
       joined-short ss,
-      spaced-short (k .0) 0 0 (omega arith) (fields-rising m (k .0) (k .1) .0),
+      spaced-short (k .0) First (fields-rising m (k .0) (k .1) .0),
     )
 
 -- cleaning it changes nothing
@@ -70,26 +71,26 @@ text-fits m = fits (messageText m) refl
   where
     fits : (r : Result (List ℕ)) → messageText m ≡ r → lend 166 r ≡ r
     fits (done t) e = simp (le-leb (length t) 166 (at-most-166 m t e))
-    fits (refused n) e = refl
+    fits (refused why) e = refl
 
 -- a text of digits that is not empty is not empty when it is cleaned, whatever is joined to it
-digits-some : (s : List ℕ) (ss : List (List ℕ)) → permittedFrom Digits 0 s ≡ true → 0 < length s → 0 < length (cleaned (joined (s ∷ ss)))
-unfolding joined permittedFrom permitted
+digits-some : (s : List ℕ) (ss : List (List ℕ)) → all digit s ≡ true → 0 < length s → 0 < length (cleaned (joined (s ∷ ss)))
+unfolding joined
 digits-some [] ss d h = absurd (omega arith)
 digits-some (x ∷ s) [] d h = cleaned-digit x s [] (both-true (digit x) _ d .0)
 digits-some (x ∷ s) (t ∷ ss) d h = cleaned-digit x (s ++ 32 ∷ joined (t ∷ ss)) [] (both-true (digit x) _ d .0)
 
-type-rule : rule 0 ≡ Listed Digits 4 4 Whole
+type-rule : rule 0 ≡ Listed (All Digits) 4 4 Whole
 unfolding table ruleIn rule
 type-rule = refl
 
 -- the message type is in the text
 type-some : (f : Field) (fs : List Field) → f .number ≡ 0 → formed (rule (f .number)) (f .body) ≡ true → 0 < length (textOf (f ∷ fs))
-unfolding textOf listedOnly formed entered
+unfolding textOf listedOnly formed shaped entered
 type-some f fs z w =
     let s = f .body in
-    let e : rule (f .number) ≡ Listed Digits 4 4 Whole = rw z type-rule in
-    let b = both-true (between 4 4 (length s)) (permittedFrom Digits 0 s) (rw e at w) in
+    let e : rule (f .number) ≡ Listed (All Digits) 4 4 Whole = rw z type-rule in
+    let b = both-true (between 4 4 (length s)) (all digit s) (rw e at w) in
     let long = between-true 4 4 (length s) (b .0) in
     simp e (digits-some s (map shownField (listedOnly fs)) (b .1) (omega arith))
 
@@ -100,9 +101,9 @@ never-empty m t e =
     let r = fields-rising m (k .0) (k .1) in
     omega (arith, ap length (k .2), some (k .0) (r .0) (r .1))
   where
-    some : (fs : List Field) → Rising 0 0 fs → 0 < length fs → 0 < length (textOf fs)
+    some : (fs : List Field) → Rising First fs → 0 < length fs → 0 < length (textOf fs)
     some [] r h = absurd (omega arith)
-    some (f ∷ fs) r h = type-some f fs (omega (arith, r .1)) (r .2)
+    some (f ∷ fs) r h = type-some f fs (eqb-true (f .number) 0 (r .0)) (r .1)
 
 -- two accepted messages that agree on the listed fields have the same text
 pub same-text : (m k : List ℕ) (fs gs : List Field) → messageFields m ≡ done fs → messageFields k ≡ done gs → Agree fs gs → messageText m ≡ messageText k
@@ -111,30 +112,3 @@ same-text m k fs gs e f a =
     rw (e, f)
     (ap (λ (ls : List Field). done (cleaned (joined (map shownField ls))))
     (listed-same fs gs (fields-rising m fs e .0) (fields-rising k gs f .0) a))
-
--- ---- no refusal of a message has the number 0
-
-judged-numbered : (lowest highest : ℕ) (s : List ℕ) → Numbered (judged lowest highest s)
-unfolding judged
-judged-numbered lowest highest s =
-    require-numbered (leb (4 + bodySize s) (length s)) cutShort (lit< tt)
-    (require-numbered (between lowest highest (fieldNumber s)) fieldOrder (lit< tt)
-    (require-numbered (formed (rule (fieldNumber s)) (bodyOf s)) fieldForm (lit< tt)
-    (require-numbered (knownType (fieldNumber s) (bodyOf s)) messageType (lit< tt) (done-numbered (fieldOf s)))))
-
-records-numbered : (skip lowest highest : ℕ) (s : List ℕ) → Numbered (records skip lowest highest s)
-unfolding records
-records-numbered zero lowest highest [] = done-numbered []
-records-numbered (suc skip) lowest highest [] = done-numbered []
-records-numbered (suc skip) lowest highest (x ∷ s) = records-numbered skip lowest highest s
-records-numbered zero lowest highest (x ∷ s) =
-    then-numbered (judged lowest highest (x ∷ s)) _ (judged-numbered lowest highest (x ∷ s))
-    (λ f.
-    let skipped = 3 + bodySize (x ∷ s) in
-    then-numbered (records skipped (f .number + 1) highestField s) _ (records-numbered skipped (f .number + 1) highestField s) (λ fs. done-numbered (f ∷ fs)))
-
--- no refusal of a message has the number 0
-pub text-numbered : (m : List ℕ) → Numbered (messageText m)
-unfolding messageText messageFields
-text-numbered m =
-    then-numbered (messageFields m) _ (require-numbered (leb (length m) 4096) size (lit< tt) (require-numbered (ltb 0 (length m)) cutShort (lit< tt) (records-numbered 0 0 0 m))) (λ fs. done-numbered (textOf fs))

@@ -1,8 +1,9 @@
 mod Example
-mod Judging
+mod Reading
 mod Walking
 mod Room
 mod Joining
 mod Rising
 mod Agreeing
+pub mod Results
 pub mod Laws

@@ -14,9 +14,13 @@ use Rattle.message.specs.declared.fields.Entry.{Entry}
 use Rattle.message.specs.declared.fields.Entry.the-variants.{Whole, Counted, First}
 use Rattle.message.specs.declared.fields.Rule.{Rule}
 use Rattle.message.specs.declared.fields.Rule.the-variants.{Listed, Unlisted}
-use Rattle.message.specs.Fields.{table, ruleIn, rule, permittedFrom, formed}
+use Rattle.message.specs.Fields.{table, ruleIn, rule, shaped, formed}
+use Rattle.message.specs.declared.records.Place.{Place}
+use Rattle.message.specs.declared.records.Place.the-variants.{After}
+use Rattle.message.specs.Records.{inOrder}
 use Rattle.message.specs.Text.{entered}
 use Rattle.message.specs.Gathered.{spacedField}
+use Rattle.message.proofs.Reading.{lowest, lowest-is}
 
 -- a body of at most `most` characters as it enters the text
 entryWidth : Entry → ℕ → ℕ
@@ -26,7 +30,7 @@ entryWidth (First n) most = n
 
 -- a field with a space before it
 width : Rule → ℕ
-width (Listed kind least most entry) = 1 + entryWidth entry most
+width (Listed shape least most entry) = 1 + entryWidth entry most
 width Unlisted = 0
 
 entered-short : (entry : Entry) (s : List ℕ) (most : ℕ) → length s ≤ most → length (entered entry s) ≤ entryWidth entry most
@@ -37,8 +41,8 @@ entered-short (First n) s most h = rw length-take (omega arith)
 
 field-short : (r : Rule) (s : List ℕ) → formed r s ≡ true → length (spacedField r s) ≤ width r
 unfolding formed spacedField width
-field-short (Listed kind least most entry) s f =
-    let long = between-true least most (length s) (both-true (between least most (length s)) (permittedFrom kind 0 s) f .0) in
+field-short (Listed shape least most entry) s f =
+    let long = between-true least most (length s) (both-true (between least most (length s)) (shaped shape s) f .0) in
     omega (arith, entered-short entry s most (long .1))
 field-short Unlisted s f = omega arith
 
@@ -46,10 +50,6 @@ field-short Unlisted s f = omega arith
 roomIn : List (ℕ × Rule) → ℕ → ℕ
 roomIn [] n = 0
 roomIn (row ∷ rows) n = pick (ltb (row .0) n) (width (row .1)) 0 + roomIn rows n
-
--- the listed fields with numbers below n
-pub room : ℕ → ℕ
-room n = roomIn table n
 
 pick-mono : (k w a b : ℕ) → a ≤ b → pick (ltb k a) w 0 ≤ pick (ltb k b) w 0
 pick-mono k w a b h =
@@ -70,16 +70,31 @@ grow (row ∷ t) a n h =
     simp (e, le-ltb (row .0) a (omega arith), lt-ltb (row .0) (n + 1) (omega arith)) (omega (arith, mono t a (n + 1) (omega arith))))
     (λ d. simp d (omega (arith, grow t a n h, pick-mono (row .0) (width (row .1)) a (n + 1) (omega arith))))
 
-all-rows : room 193 ≡ 167
-unfolding room roomIn table width entryWidth
+-- all rows of a table
+total : List (ℕ × Rule) → ℕ
+total [] = 0
+total (row ∷ rows) = width (row .1) + total rows
+
+in-all : (t : List (ℕ × Rule)) (n : ℕ) → roomIn t n ≤ total t
+unfolding roomIn total
+in-all [] n = omega arith
+in-all (row ∷ t) n = cases (ltb (row .0) n) (λ e. simp e (omega (arith, in-all t n))) (λ e. simp e (omega (arith, in-all t n)))
+
+all-rows : total table ≡ 167
+unfolding total table width entryWidth
 all-rows = refl
 
--- there is room for every field up to 192
-pub room-short : (n : ℕ) → n ≤ 193 → room n ≤ 167
+-- the listed fields that can stand before a place
+pub room : Place → ℕ
+room place = roomIn table (lowest place)
+
+-- they have room in 167 bytes
+pub room-short : (place : Place) → room place ≤ 167
 unfolding room
-room-short n h = omega (arith, mono table n 193 h, all-rows)
+room-short place = omega (arith, in-all table (lowest place), all-rows)
 
 -- a field takes no more than the room between it and the fields before it
-pub room-grows : (a n : ℕ) (s : List ℕ) → a ≤ n → formed (rule n) s ≡ true → room a + length (spacedField (rule n) s) ≤ room (n + 1)
+pub room-grows : (place : Place) (n : ℕ) (s : List ℕ) → inOrder place n ≡ true → formed (rule n) s ≡ true
+    → room place + length (spacedField (rule n) s) ≤ room (After n)
 unfolding room rule
-room-grows a n s h f = omega (arith, grow table a n h, field-short (ruleIn table n) s f)
+room-grows place n s h f = omega (arith, grow table (lowest place) n (lowest-is place n h), field-short (ruleIn table n) s f)

@@ -1,35 +1,42 @@
--- What only the contracts of private functions cite: the listed fields as they are gathered before the text is cleaned, each
--- with a space before it.
-use mathlib.Core.Path.{_≡_}
+-- What only the contracts of private functions cite: a record as it is read, and the listed fields as they are gathered before the text is
+-- cleaned, each with a space before it.
 use mathlib.Core.List.{List, [], _∷_, _++_, map}
-use Prim.Native.Nat.{ℕ, _≤_}
-use lib.ListN.{take}
+use Prim.Native.Nat.{ℕ, _+_, _≤_}
+use lib.ListN.{length}
+use Rattle.lent.specs.Appending.{Appended}
 use Rattle.lent.specs.Choice.{pick}
-use Rattle.lent.specs.Result.{Result, done, andThen, answerOf}
+use Rattle.lent.specs.Refusals.{numberOf}
+use Rattle.lent.specs.Result.{Result, done, refused, andThen}
 use Rattle.cleaning.specs.Cleaning.{space}
 use Rattle.message.specs.declared.fields.Rule.{Rule}
+use Rattle.message.specs.declared.records.Read as Reading
+use Rattle.message.specs.declared.records.Read.{Read}
 use Rattle.message.specs.Fields.{isListed}
-use Rattle.message.specs.Records.{Field, messageFields}
+use Rattle.message.specs.Records.{Field, bodySize, messageFields}
 use Rattle.message.specs.Text.{shown, shownField, listedOnly}
+
+-- the record at the start of s: its field number and where it ends, or its refusal's number
+abbrev pub readOf : List ℕ → Result Field → Read
+readOf s (done f) = Reading.the-variants.Field (f .number) (4 + bodySize s)
+readOf s (refused why) = Reading.the-variants.Refused (numberOf why)
 
 -- a listed field with a space before it; an unlisted one leaves nothing
 unfoldable pub spacedField : Rule → List ℕ → List ℕ
 spacedField r s = pick (isListed r) (space ∷ shown r s) []
 
 -- a space before each
-unfoldable pub led : List (List ℕ) → List ℕ
-led [] = []
-led (s ∷ ss) = space ∷ (s ++ led ss)
+unfoldable pub spaceBeforeEach : List (List ℕ) → List ℕ
+spaceBeforeEach [] = []
+spaceBeforeEach (s ∷ ss) = space ∷ (s ++ spaceBeforeEach ss)
 
 -- the listed fields, each with a space before it
 unfoldable pub spaced : List Field → List ℕ
-spaced fs = led (map shownField (listedOnly fs))
+spaced fs = spaceBeforeEach (map shownField (listedOnly fs))
 
 -- those of a message
 unfoldable pub gathered : List ℕ → Result (List ℕ)
 gathered s = andThen (messageFields s) (λ fs. done (spaced fs))
 
--- What gathering leaves: the refusal's number, or 0 and as many bytes from the start of memory as were gathered.
-pub record Outcome (answer : Result (List ℕ)) (num len : ℕ) (after : List ℕ) : Type 0 where
-  pub value : answer ≡ answerOf num (take len after)
-  pub fits : len ≤ 167
+-- What a private function that appends promises: the value stands after the first n bytes if there is room for it.
+abbrev pub Appends : List ℕ → List ℕ → List ℕ → ℕ → ℕ → Type 0
+Appends value before after n r = n + length value ≤ length before → Appended value before after n r

@@ -1,22 +1,21 @@
 -- The records of a message and their refusals (01, The message and its MAC text; Numbers an operator sees).
-use mathlib.Core.Bool.{Bool, not}
-use mathlib.Core.List.{List, [], _∷_}
+use mathlib.Core.Bool.{Bool, true, false, not}
+use mathlib.Core.List.{List, [], _∷_, map}
 use Prim.Native.Nat.{ℕ, zero, suc, _+_, _*_}
 use lib.Dec.{leb, ltb, eqb}
 use lib.ListN.{length, take, drop, getD}
-use Rattle.lent.specs.Choice.{both, either, between}
+use Rattle.lent.specs.Choice.{both, either}
+use Rattle.lent.specs.Characters.{twoDigits}
 use Rattle.lent.specs.Refusals.{cutShort, fieldOrder, fieldForm, messageType, size}
 use Rattle.lent.specs.Result.{Result, done, require, andThen}
+use Rattle.message.specs.declared.records.Place.{Place}
+use Rattle.message.specs.declared.records.Place.the-variants.{First, After}
 use Rattle.message.specs.Fields.{rule, formed}
 
 -- A field of a message: its number and its body.
 pub record Field : Type 0 where
   pub number : ℕ
   pub body : List ℕ
-
--- the highest field number
-abbrev pub highestField : ℕ
-highestField = 192
 
 -- the number of two bytes at i, the low one first
 unfoldable pub littleEndian : List ℕ → ℕ → ℕ
@@ -26,42 +25,55 @@ littleEndian s i = getD s i 0 + 256 * getD s (i + 1) 0
 abbrev pub bodySize : List ℕ → ℕ
 bodySize s = littleEndian s 0
 
--- its field number
-abbrev pub fieldNumber : List ℕ → ℕ
-fieldNumber s = littleEndian s 2
-
--- its body
-unfoldable pub bodyOf : List ℕ → List ℕ
-bodyOf s = take (bodySize s) (drop 4 s)
-
 -- its field
-abbrev pub fieldOf : List ℕ → Field
-fieldOf s = record { number = fieldNumber s; body = bodyOf s }
+unfoldable pub fieldOf : List ℕ → Field
+fieldOf s = record { number = littleEndian s 2; body = take (bodySize s) (drop 4 s) }
 
--- field 0, the message type, starts with 01, 02, 04 or 05; 48 is the digit 0
+-- the first field of a message is 0; any other is above the one before and at most 192
+abbrev pub inOrder : Place → ℕ → Bool
+inOrder First n = eqb n 0
+inOrder (After before) n = both (ltb before n) (leb n 192)
+
+-- two texts are the same
+abbrev pub same : List ℕ → List ℕ → Bool
+same [] [] = true
+same [] (y ∷ t) = false
+same (x ∷ s) [] = false
+same (x ∷ s) (y ∷ t) = both (eqb x y) (same s t)
+
+-- a text is one of a list
+abbrev pub oneOf : List (List ℕ) → List ℕ → Bool
+oneOf [] s = false
+oneOf (t ∷ ts) s = either (same t s) (oneOf ts s)
+
+-- 01, 02, 04 and 05
+abbrev pub typeStarts : List (List ℕ)
+typeStarts = map twoDigits (1 ∷ 2 ∷ 4 ∷ 5 ∷ [])
+
+-- field 0, the message type, starts with one of them
 unfoldable pub knownType : ℕ → List ℕ → Bool
-knownType n s =
-    either (not (eqb n 0))
-    (both (eqb (getD s 0 0) 48) (either (between 49 50 (getD s 1 0)) (between 52 53 (getD s 1 0))))
+knownType n s = either (not (eqb n 0)) (oneOf typeStarts (take 2 s))
 
--- the record at the start of s, whose field number must be from lowest to highest: 1, 2, 4, 3, or its field
-unfoldable pub judged : ℕ → ℕ → List ℕ → Result Field
-judged lowest highest s =
-    require (leb (4 + bodySize s) (length s)) cutShort
-    (require (between lowest highest (fieldNumber s)) fieldOrder
-    (require (formed (rule (fieldNumber s)) (bodyOf s)) fieldForm
-    (require (knownType (fieldNumber s) (bodyOf s)) messageType
-    (done (fieldOf s)))))
+-- a field at its place in a message: 2, 4, 3, or the field
+unfoldable pub checkedField : Place → Field → Result Field
+checkedField place f =
+    require (inOrder place (f .number)) fieldOrder
+    (require (formed (rule (f .number)) (f .body)) fieldForm
+    (require (knownType (f .number) (f .body)) messageType
+    (done f)))
 
--- The fields of the records of s after its first `skip` bytes, judged one at a time. The first field number must be from lowest
--- to highest, each later one above the one before and at most 192.
-unfoldable pub records : ℕ → ℕ → ℕ → List ℕ → Result (List Field)
-records skip lowest highest [] = done []
-records (suc skip) lowest highest (x ∷ s) = records skip lowest highest s
-records zero lowest highest (x ∷ s) =
-    andThen (judged lowest highest (x ∷ s))
-    (λ f. andThen (records (3 + bodySize (x ∷ s)) (f .number + 1) highestField s) (λ fs. done (f ∷ fs)))
+-- the record at the start of s: 1 if it is cut short, or its field
+unfoldable pub recordField : Place → List ℕ → Result Field
+recordField place s = require (leb (4 + bodySize s) (length s)) cutShort (checkedField place (fieldOf s))
 
--- the fields of a message of 1 to 4,096 bytes, whose first field is 0
+-- the fields of the records of s after its first `skip` bytes, taken one at a time
+unfoldable pub records : ℕ → Place → List ℕ → Result (List Field)
+records skip place [] = done []
+records (suc skip) place (x ∷ s) = records skip place s
+records zero place (x ∷ s) =
+    andThen (recordField place (x ∷ s))
+    (λ f. andThen (records (3 + bodySize (x ∷ s)) (After (f .number)) s) (λ fs. done (f ∷ fs)))
+
+-- the fields of a message of 1 to 4,096 bytes
 unfoldable pub messageFields : List ℕ → Result (List Field)
-messageFields s = require (leb (length s) 4096) size (require (ltb 0 (length s)) cutShort (records 0 0 0 s))
+messageFields s = require (leb (length s) 4096) size (require (ltb 0 (length s)) cutShort (records 0 First s))

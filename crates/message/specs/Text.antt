@@ -7,9 +7,8 @@ use Prim.Native.Nat.{ℕ}
 use lib.Dec.{eqb}
 use lib.ListN.{length, take}
 use Rattle.lent.specs.Choice.{pick, only}
-use Rattle.lent.specs.Characters.{digitOf}
+use Rattle.lent.specs.Characters.{twoDigits}
 use Rattle.lent.specs.Result.{Result, done, andThen}
-use Rattle.lent.specs.Words.{toBase}
 use Rattle.cleaning.specs.Cleaning.{space, cleaned}
 use Rattle.message.specs.declared.fields.Entry.{Entry}
 use Rattle.message.specs.declared.fields.Entry.the-variants.{Whole, Counted, First}
@@ -17,10 +16,6 @@ use Rattle.message.specs.declared.fields.Rule.{Rule}
 use Rattle.message.specs.declared.fields.Rule.the-variants.{Listed, Unlisted}
 use Rattle.message.specs.Fields.{rule, listed}
 use Rattle.message.specs.Records.{Field, messageFields}
-
--- two decimal digits
-abbrev pub twoDigits : ℕ → List ℕ
-twoDigits n = map digitOf (toBase 10 2 n)
 
 -- a body as it enters the text
 unfoldable pub entered : Entry → List ℕ → List ℕ
@@ -30,7 +25,7 @@ entered (First n) s = take n s
 
 -- what goes into the text of a body with this rule
 abbrev pub shown : Rule → List ℕ → List ℕ
-shown (Listed kind least most entry) s = entered entry s
+shown (Listed shape least most entry) s = entered entry s
 shown Unlisted s = []
 
 -- what goes into the text of a field

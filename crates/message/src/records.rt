@@ -1,12 +1,28 @@
-// The records of a message, judged one at a time (01, Numbers an operator sees).
+// The records of a message (01, Numbers an operator sees).
 use crate::fields;
 ghost use mathlib.Core.Path.{_≡_};
 ghost use Prim.Native.Nat.{_<_, _≤_};
 ghost use Rattle.lent.specs.Result.{number};
+ghost use Rattle.message.specs.Gathered;
 ghost use Rattle.message.specs.Records;
 
 // The highest field number.
-pub(crate) const HIGHEST_FIELD: usize = 192;
+const HIGHEST_FIELD: usize = 192;
+
+// Where a record stands in its message.
+pub(crate) enum Place {
+    First,
+    // After a record of this field.
+    After(usize),
+}
+
+// What is read of a record.
+pub(crate) enum Read {
+    // Its field number, and where it ends.
+    Field(usize, usize),
+    // Why it is refused.
+    Refused(u32),
+}
 
 // The number of two bytes at i, the low one first; past the end stand zeros.
 fn little_endian(s: &[u8], i: usize) -> usize
@@ -16,18 +32,17 @@ fn little_endian(s: &[u8], i: usize) -> usize
     (lent::byte_at(s, i) as usize) + 256 * (lent::byte_at(s, i + 1) as usize)
 }
 
-// The length that the record at the start of `rest` announces for its body.
-pub(crate) fn body_size(rest: &[u8]) -> usize
-    ensures { λ r. ⌜ (r ≡ Records.bodySize (now (rest .entry))) × (r ≤ 65535) ⌝ }
+// Whether a field number may stand at its place: the first is 0, any other is above the one before and at most 192.
+fn in_order(place: Place, field: usize) -> bool
+    ensures { λ r. ⌜ r ≡ Records.inOrder place field ⌝ }
 {
-    little_endian(rest, 0)
-}
-
-// The field number of the record at the start of `rest`.
-pub(crate) fn field_number(rest: &[u8]) -> usize
-    ensures { λ r. ⌜ (r ≡ Records.fieldNumber (now (rest .entry))) × (r ≤ 65535) ⌝ }
-{
-    little_endian(rest, 2)
+    let Place::After(before) = place else {
+        return field == 0;
+    };
+    if field <= before {
+        return false;
+    }
+    field <= HIGHEST_FIELD
 }
 
 // Whether a field is not the message type, or starts with 01, 02, 04 or 05.
@@ -40,30 +55,22 @@ fn known_type(field: usize, body: &[u8]) -> bool
     if lent::byte_at(body, 0) != b'0' {
         return false;
     }
-    let x = lent::byte_at(body, 1);
-    if lent::between(b'1', b'2', x) {
-        return true;
+    match lent::byte_at(body, 1) {
+        b'1' => true,
+        b'2' => true,
+        b'4' => true,
+        b'5' => true,
+        _ => false,
     }
-    lent::between(b'4', b'5', x)
 }
 
-// Why the record at the start of `rest` is refused, whose field number must be from lowest to highest: 1, 2, 4, 3, or 0 where it
-// is accepted.
-pub(crate) fn refusal(rest: &[u8], lowest: usize, highest: usize) -> u8
-    ensures { λ r. ⌜ r ≡ number (Records.judged lowest highest (now (rest .entry))) ⌝ }
+// Why a field is refused at its place: 2, 4, 3, or 0 if it is not.
+fn refusal(place: Place, field: usize, body: &[u8]) -> u32
+    ensures { λ r. ⌜ r ≡ number (Records.checkedField place (record { number = field; body = now (body .entry) })) ⌝ }
 {
-    let end = 4 + body_size(rest);
-    if rest.len() < end {
-        return lent::CUT_SHORT;
-    }
-    let field = field_number(rest);
-    if field < lowest {
+    if !in_order(place, field) {
         return lent::FIELD_ORDER;
     }
-    if highest < field {
-        return lent::FIELD_ORDER;
-    }
-    let body = &rest[4..end];
     if !fields::formed(fields::rule_of(field), body) {
         return lent::FIELD_FORM;
     }
@@ -71,4 +78,20 @@ pub(crate) fn refusal(rest: &[u8], lowest: usize, highest: usize) -> u8
         return lent::MESSAGE_TYPE;
     }
     lent::DONE
+}
+
+// Reads the record at the start of `rest`: refuses with 1 if it is cut short, then with 2, 4, 3.
+pub(crate) fn read_record(place: Place, rest: &[u8]) -> Read
+    ensures { λ r. ⌜ r ≡ Gathered.readOf (now (rest .entry)) (Records.recordField place (now (rest .entry))) ⌝ }
+{
+    let end = 4 + little_endian(rest, 0);
+    if rest.len() < end {
+        return Read::Refused(lent::CUT_SHORT);
+    }
+    let field = little_endian(rest, 2);
+    let number = refusal(place, field, &rest[4..end]);
+    if number != lent::DONE {
+        return Read::Refused(number);
+    }
+    Read::Field(field, end)
 }

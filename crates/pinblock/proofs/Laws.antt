@@ -28,7 +28,11 @@ use Rattle.pinblock.proofs.CardNumbers.{card-part-lt, last-digit}
 use Rattle.pinblock.proofs.Pins.{pin-block-lt}
 use Rattle.pinblock.proofs.Readings.{pin-read, pin-made, pin-refused}
 
--- A block of 8 bytes and its word.
+-- the bytes of a word are a block
+block-of : (x : ℕ) → Block (wordBytes x)
+block-of x = record { size = to-length 256 8 x; bytes = to-bytes 8 x }
+
+-- a block is the bytes of its word
 module _ {block : List ℕ} (b : Block block) where
   word-lt : word block < 2 ^ 64
   word-lt = from-lt 256 8 block (elements-below 256 block (lit< tt) (b .bytes))
@@ -43,9 +47,6 @@ record Changes (forth back : ℕ → ℕ) (make read : List ℕ → Result (List
   reader : (block : List ℕ) → Block block → read block ≡ pinOf (back (word block))
 
 module _ {forth back : ℕ → ℕ} {make read : List ℕ → Result (List ℕ)} (c : Changes forth back make read) where
-  block-of : (x : ℕ) → Block (wordBytes x)
-  block-of x = record { size = to-length 256 8 x; bytes = to-bytes 8 x }
-
   read-made : (pin block : List ℕ) → Makes permitted make pin block → read block ≡ done pin
   read-made pin block m =
       let x = pinBlock pin in
@@ -128,7 +129,7 @@ module _ (key : List ℕ) (h : keySize key ≡ true) where
         reader = λ block b.
             let y = decryptedUnder key (word block) in
             simp (eq-eqb (length block) 8 (b .size), h)
-            (c .reader (wordBytes y) (record { size = to-length 256 8 y; bytes = to-bytes 8 y }) ∙ ap (λ (x : ℕ). pinOf (back x)) (word-back y (j .back-lt (word block) (word-lt b))));
+            (c .reader (wordBytes y) (block-of y) ∙ rw (word-back y (j .back-lt (word block) (word-lt b))));
       }
 
   -- without a card number

@@ -2,40 +2,38 @@
 use borrow.Author.Tests.{lt-ltb}
 use mathlib.Core.Path.{_≡_, refl, sym, ap, _∙_}
 use mathlib.Core.Bool.{true}
-use mathlib.Core.List.{List, [], _∷_, _++_, map}
-use Prim.Native.Nat.{ℕ, zero, suc, _+_, _-_, _%_, _^_, _<_, _≤_}
+use mathlib.Core.List.{List, [], _∷_, _++_, map, map-map, map-id}
+use Prim.Native.Nat.{ℕ, zero, suc, _+_, _-_, _^_, _<_, _≤_}
 use native.Mathlib.Nat.{zero-add, mod-eq-of-lt}
 use native.Mathlib.Omega.{arith}
 use lib.ListN.{length, take, replicate, length-append, length-map, length-replicate}
 use lib.Seq.{take-at}
-use Rattle.lent.specs.Choice.{between, all}
+use Rattle.lent.specs.Choice.{all}
 use Rattle.lent.specs.Characters.{digit, digitValue, digitOf}
 use Rattle.lent.specs.Words.{fromBase, toBase}
 use Rattle.lent.proofs.Laws.{both-true, between-true}
 use Rattle.lent.proofs.Lists.{all-map, all-append, all-replicate, take-replicate}
-use Rattle.pinblock.specs.Pin.{permitted, pinHalfBytes, pinBlock}
+use Rattle.pinblock.specs.Pin.{pinSize, permitted, pinHalfBytes, pinBlock}
 use Rattle.pinblock.specs.Private.{lowHalf, wordOf}
 use Rattle.pinblock.specs.Reading.{candidate}
 use Rattle.pinblock.proofs.HalfBytes.{halfByte, word-lt, word-of, half-bytes-of}
 
 -- ---- digits and their values
 
-digit-of-value : (s : List ℕ) → all digit s ≡ true → map digitOf (map digitValue s) ≡ s
-digit-of-value [] e = refl
-digit-of-value (x ∷ s) e =
+-- two changes that agree on digits
+map-digits : (f g : ℕ → ℕ) → ((x : ℕ) → 48 ≤ x → x ≤ 57 → f x ≡ g x) → (s : List ℕ) → all digit s ≡ true → map f s ≡ map g s
+map-digits f g h [] e = refl
+map-digits f g h (x ∷ s) e =
     let b = both-true (digit x) (all digit s) e in
-    let h = between-true 48 57 x (b .0) in
-    let same : x - 48 + 48 ≡ x = omega arith in
-    rw (same, digit-of-value s (b .1))
+    let k = between-true 48 57 x (b .0) in
+    rw (h x (k .0) (k .1), map-digits f g h s (b .1))
+
+digit-of-value : (s : List ℕ) → all digit s ≡ true → map digitOf (map digitValue s) ≡ s
+digit-of-value s e = map-map digitOf digitValue s ∙ map-digits (λ x. x - 48 + 48) (λ x. x) (λ x h k. omega arith) s e ∙ map-id s
 
 -- a digit's low half-byte is its value
 pub low-digits : (s : List ℕ) → all digit s ≡ true → map lowHalf s ≡ map digitValue s
-low-digits [] e = refl
-low-digits (x ∷ s) e =
-    let b = both-true (digit x) (all digit s) e in
-    let h = between-true 48 57 x (b .0) in
-    let same : x % 16 ≡ x - 48 = omega arith in
-    rw (same, low-digits s (b .1))
+low-digits = map-digits lowHalf digitValue (λ x h k. omega arith)
 
 low-fill : (n : ℕ) → map lowHalf (replicate n 15) ≡ replicate n 15
 low-fill zero = refl
@@ -49,10 +47,10 @@ values-half-bytes =
 
 module _ (pin : List ℕ) (h : permitted pin ≡ true) where
   pub pin-short : (4 ≤ length pin) × (length pin ≤ 12)
-  pin-short = between-true 4 12 (length pin) (both-true (between 4 12 (length pin)) (all digit pin) h .0)
+  pin-short = between-true 4 12 (length pin) (both-true (pinSize pin) _ h .0)
 
   pin-digits : all digit pin ≡ true
-  pin-digits = both-true (between 4 12 (length pin)) (all digit pin) h .1
+  pin-digits = both-true (pinSize pin) (all digit pin) h .1
 
   pin-length : length (pinHalfBytes pin) ≡ 16
   unfolding pinHalfBytes

@@ -1,12 +1,13 @@
 -- `clean` meets its contract.
 use borrow.Author.Needs.{needs}
 use borrow.Author.Tests.{lt-leb}
-use mathlib.Core.Path.{sym}
+use mathlib.Core.Path.{refl, sym}
 use Prim.Native.Nat.{_<_, _≤_}
 use native.Mathlib.Omega.{arith}
 use lib.ListN.{length}
 use lib.Seq.{length-take-le}
-use Rattle.lent.proofs.Results.{refused-written}
+use Rattle.lent.specs.Refusals.{size}
+use Rattle.lent.proofs.Results.{refused-answer}
 use Rattle.cleaning.specs.Cleaning.{cleanText}
 use Rattle.cleaning.proofs.Laws.{clean-done}
 use Rattle.cleaning.proofs.clean.Statement.{statement}
@@ -19,7 +20,7 @@ returns : tie.Need-returns
 unfolding cleanText
 returns c =
     let long : 1024 < length (c .before .before .before .before .args .text .now) = omega arith in
-    refused-written 6 (simp (lt-leb _ _ long)) (cc) (cc)
+    refused-answer (c .refused .ensures) (size, refl, simp (lt-leb _ _ long))
 
 slice-aggregate-write-cleaned : tie.Need-slice-aggregate-write-cleaned
 slice-aggregate-write-cleaned c = search needs

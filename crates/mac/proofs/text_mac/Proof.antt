@@ -1,15 +1,19 @@
 -- `text_mac` meets its contract.
-use borrow.Author.Needs.{needs}
-use mathlib.Core.Path.{_≡_, sym}
-use Prim.Native.Nat.{_<_, _≤_}
+use borrow.Author.Tests.{eq-eqb, ne-eqb, lt-ltb, le-ltb}
+use mathlib.Core.Path.{_≡_, refl, sym}
+use mathlib.Core.List.{List}
+use Prim.Native.Nat.{ℕ, _<_, _≤_}
 use native.Mathlib.Omega.{arith}
 use lib.ListN.{length, take}
 use lib.Seq.{length-take-le}
+use Rattle.lent.specs.Refusals.{size, emptyText}
 use Rattle.lent.specs.Result.{done}
-use Rattle.lent.proofs.Results.{written-refused, written-done}
+use Rattle.lent.proofs.Results.{refused-block, written-refused, written-done}
 use Rattle.cleaning.specs.Cleaning.{cleanText}
-use Rattle.cleaning.proofs.Laws.{clean-fits, clean-numbered}
-use Rattle.mac.proofs.Orders.{text-key, text-refused, text-empty, text-done}
+use Rattle.cleaning.proofs.Laws.{clean-fits}
+use Rattle.message.proofs.Results.{refuses-then}
+use Rattle.mac.specs.Mac.{macOf, cleanedMac, textMac}
+use borrow.Author.Needs.{needs}
 use Rattle.mac.proofs.text_mac.Statement.{statement}
 use Rattle.mac.proofs.text_mac.Tie as tie
 
@@ -17,9 +21,8 @@ refused-block-requires : tie.Need-refused-block-requires
 refused-block-requires c κs = search needs
 
 returns : tie.Need-returns
-returns c =
-    let a = c .before .before .before .before .args in
-    rw (text-key (a .key .now) (a .text .now) (c .before .if1 .taken)) (c .refused-block .ensures)
+unfolding textMac
+returns c = refused-block (c .refused-block .ensures) (size, refl, simp (ne-eqb _ _ (c .before .if1 .taken)))
 
 slice-aggregate-clean : tie.Need-slice-aggregate-clean
 slice-aggregate-clean c = search needs
@@ -31,35 +34,30 @@ refused-block-requires-2 : tie.Need-refused-block-requires-2
 refused-block-requires-2 c κs = search needs
 
 returns-2 : tie.Need-returns-2
+unfolding textMac
 returns-2 c =
-    let w = c .before .before .before in
-    let k = w .before .before in
-    let a = k .before .before .before .args in
-    rw (text-refused (a .key .now) (a .text .now) (w .clean .result .number) (k .if1 .left)
-    (written-refused (w .clean .ensures) (clean-fits (a .text .now)) (c .before .if2 .taken)))
-    (c .refused-block2 .ensures)
+    let a = c .before .before .before .before .before .before .before .before .args in
+    refused-block (c .refused-block2 .ensures)
+    (rw (eq-eqb _ _ (c .before .before .before .before .before .if1 .left))
+    (refuses-then (cleanedMac (a .key .now)) (written-refused (c .before .before .before .clean .ensures) (clean-fits (a .text .now)) (c .before .if2 .taken))))
 
 -- the cleaned text stands at the start of the room
-cleaned : (c : tie.Else2) → let w = c .before .before in let a = w .before .before .before .before .before .args in
-    (cleanText (a .text .now) ≡ done (take (w .clean .result .length) (w .clean .last .1 .0)))
-    × (w .clean .result .length ≤ length (w .clean .last .1 .0))
-cleaned c =
-    let w = c .before .before in
-    let a = w .before .before .before .before .before .args in
-    written-done (w .clean .ensures) (clean-fits (a .text .now)) (clean-numbered (a .text .now)) (c .if2 .left)
+abbrev text : tie.Else2 → List ℕ
+text c = take (c .before .before .clean .result .length) (c .before .before .clean .last .1 .0)
+
+cleaned : (c : tie.Else2) → (cleanText (c .before .before .before .before .before .before .before .args .text .now) ≡ done (text c)) × (c .before .before .clean .result .length ≤ length (c .before .before .clean .last .1 .0))
+cleaned c = written-done (c .before .before .clean .ensures) (c .if2 .left)
 
 refused-block-requires-3 : tie.Need-refused-block-requires-3
 refused-block-requires-3 c κs = search needs
 
 returns-3 : tie.Need-returns-3
+unfolding textMac cleanedMac
 returns-3 c =
-    let e = c .before .before in
-    let w = e .before .before in
-    let k = w .before .before in
-    let a = k .before .before .before .args in
-    let t = take (w .clean .result .length) (w .clean .last .1 .0) in
-    let none : length t ≤ 0 = rw (length-take-le _ _ (cleaned e .1)) (omega arith) in
-    rw (text-empty (a .key .now) (a .text .now) t (k .if1 .left) (cleaned e .0) none) (c .refused-block3 .ensures)
+    let d = c .before .before in
+    let k = cleaned d in
+    let none : length (text d) ≤ 0 = rw (length-take-le _ _ (k .1)) (omega arith) in
+    refused-block (c .refused-block3 .ensures) (emptyText, refl, simp (eq-eqb _ _ (d .before .before .before .before .if1 .left), k .0, le-ltb _ _ none))
 
 array-share-prefix-room : tie.Need-array-share-prefix-room
 array-share-prefix-room c = cleaned (c .before) .1
@@ -70,15 +68,16 @@ slice-aggregate-mac-of c = sym (length-take-le _ _ (cleaned (c .before .before) 
 mac-of-requires : tie.Need-mac-of-requires
 mac-of-requires c κs = search needs
 
+-- it is not empty
+mac-is : (c : tie.Else3) → let a = c .before .before .before .before .before .before .before .before .args in textMac (a .key .now) (a .text .now) ≡ done (macOf (a .key .now) (text (c .before)))
+unfolding textMac cleanedMac
+mac-is c =
+    let k = cleaned (c .before) in
+    let some : 0 < length (text (c .before)) = rw (length-take-le _ _ (k .1)) (omega arith) in
+    simp (eq-eqb _ _ (c .before .before .before .before .before .if1 .left), k .0, lt-ltb _ _ some)
+
 returns-4 : tie.Need-returns-4
-returns-4 c =
-    let e = c .before .before .before in
-    let w = e .before .before in
-    let k = w .before .before in
-    let a = k .before .before .before .args in
-    let t = take (w .clean .result .length) (w .clean .last .1 .0) in
-    let some : 0 < length t = rw (length-take-le _ _ (cleaned e .1)) (omega arith) in
-    rw (text-done (a .key .now) (a .text .now) t (k .if1 .left) (cleaned e .0) some) (c .mac-of .ensures)
+returns-4 c = rw (mac-is (c .before .before)) (c .mac-of .ensures)
 
 pub text-mac-spec : {M : Type 1} → statement M
 text-mac-spec =

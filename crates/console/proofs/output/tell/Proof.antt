@@ -2,9 +2,10 @@
 use borrow.Author.Needs.{needs}
 use mathlib.Core.Path.{sym}
 use Prim.Native.Nat.{_≤_}
+use native.Mathlib.Omega.{arith}
 use lib.ListN.{length}
 use lib.Seq.{length-take-le}
-use Rattle.console.proofs.Lines.{within}
+use Rattle.lent.proofs.Results.{written-within, written-length}
 use Rattle.console.proofs.output.tell.Statement.{statement}
 use Rattle.console.proofs.output.tell.Tie as tie
 
@@ -21,8 +22,8 @@ append-requires-2 : tie.Need-append-requires-2
 append-requires-2 c κs = search needs
 
 -- what is told ends within the line
-ends : (c : tie.After-append2) → c .append2 .result ≤ length (c .append2 .last .0)
-ends c = within (c .append2 .ensures) (within (c .before .before .before .append .ensures) (search needs))
+ends : (c : tie.After-append2) → c .append2 .result .length ≤ length (c .append2 .last .0)
+ends c = let w = written-within (c .append2 .ensures) in omega (arith, written-length (c .append2 .ensures))
 
 array-share-prefix-line : tie.Need-array-share-prefix-line
 array-share-prefix-line c = ends (c .before)

@@ -3,7 +3,8 @@ use borrow.Author.Needs.{needs}
 use mathlib.Core.Path.{sym}
 use native.Mathlib.Omega.{arith}
 use lib.Seq.{length-take-le}
-use Rattle.czg.proofs.Bounds.{written-within, at-most}
+use Rattle.lent.proofs.Results.{written-within}
+use Rattle.czg.proofs.Bounds.{at-most}
 use Rattle.czg.proofs.calls.answer_one.Statement.{statement}
 use Rattle.czg.proofs.calls.answer_one.Tie as tie
 
@@ -17,9 +18,6 @@ call-with-room-requires : tie.Need-call-with-room-requires
 call-with-room-requires c κs =
     let s = c .before .before .before .before in
     (s .pre .0, (s .pre .1 .0, omega (arith, s .pre .1 .1 .0, c .before .buffer .ensures)))
-
-cast-length : tie.Need-cast-length
-cast-length c = search needs
 
 is-text-requires : tie.Need-is-text-requires
 is-text-requires c κs = search needs
@@ -50,7 +48,6 @@ answer-one-spec =
     buffer-requires
     slice-aggregate-call-with-room
     call-with-room-requires
-    cast-length
     is-text-requires
     array-share-prefix-value
     slice-aggregate-put-answer

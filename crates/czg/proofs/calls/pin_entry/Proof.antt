@@ -18,17 +18,17 @@ czg-pin-read-requires c κs = search needs
 czg-pin-read-with-card-requires : tie.Need-czg-pin-read-with-card-requires
 czg-pin-read-with-card-requires c κs = search needs
 
-czg-pin-encipher-requires : tie.Need-czg-pin-encipher-requires
-czg-pin-encipher-requires c κs = search needs
+czg-pin-encrypt-requires : tie.Need-czg-pin-encrypt-requires
+czg-pin-encrypt-requires c κs = search needs
 
-czg-pin-encipher-with-card-requires : tie.Need-czg-pin-encipher-with-card-requires
-czg-pin-encipher-with-card-requires c κs = search needs
+czg-pin-encrypt-with-card-requires : tie.Need-czg-pin-encrypt-with-card-requires
+czg-pin-encrypt-with-card-requires c κs = search needs
 
-czg-pin-decipher-requires : tie.Need-czg-pin-decipher-requires
-czg-pin-decipher-requires c κs = search needs
+czg-pin-decrypt-requires : tie.Need-czg-pin-decrypt-requires
+czg-pin-decrypt-requires c κs = search needs
 
-czg-pin-decipher-with-card-requires : tie.Need-czg-pin-decipher-with-card-requires
-czg-pin-decipher-with-card-requires c κs = search needs
+czg-pin-decrypt-with-card-requires : tie.Need-czg-pin-decrypt-with-card-requires
+czg-pin-decrypt-with-card-requires c κs = search needs
 
 same-length : tie.Need-same-length
 same-length c = search needs
@@ -63,21 +63,21 @@ same-length-5 c = search needs
 
 returns-5 : tie.Need-returns-5
 unfolding answerAt answers
-returns-5 c = rw (c .before .before .before .before .match .keys5) (c .before .before .czg-pin-encipher .ensures)
+returns-5 c = rw (c .before .before .before .before .match .keys5) (c .before .before .czg-pin-encrypt .ensures)
 
 same-length-6 : tie.Need-same-length-6
 same-length-6 c = search needs
 
 returns-6 : tie.Need-returns-6
 unfolding answerAt answers
-returns-6 c = rw (c .before .before .before .before .match .keys6) (c .before .before .czg-pin-encipher-with-card .ensures)
+returns-6 c = rw (c .before .before .before .before .match .keys6) (c .before .before .czg-pin-encrypt-with-card .ensures)
 
 same-length-7 : tie.Need-same-length-7
 same-length-7 c = search needs
 
 returns-7 : tie.Need-returns-7
 unfolding answerAt answers
-returns-7 c = rw (c .before .before .before .before .match .keys7) (c .before .before .czg-pin-decipher .ensures)
+returns-7 c = rw (c .before .before .before .before .match .keys7) (c .before .before .czg-pin-decrypt .ensures)
 
 same-length-8 : tie.Need-same-length-8
 same-length-8 c = search needs
@@ -88,7 +88,7 @@ returns-8 c =
     let s = c .before .before .before .before .before .before .before .before .before in
     let r = c .before .before .before .before .match .rest in
     let e : s .args .place ≡ 14 = exactly (past (past (past (past (past (past (past (s .pre .0) (r .0 .0 .0 .0 .0 .0 .1)) (r .0 .0 .0 .0 .0 .1)) (r .0 .0 .0 .0 .1)) (r .0 .0 .0 .1)) (r .0 .0 .1)) (r .0 .1)) (r .1)) (s .pre .1) in
-    rw e (c .before .before .czg-pin-decipher-with-card .ensures)
+    rw e (c .before .before .czg-pin-decrypt-with-card .ensures)
 
 pub pin-entry-spec : {M : Type 1} → statement M
 pin-entry-spec =
@@ -98,10 +98,10 @@ pin-entry-spec =
     czg-pin-make-with-card-requires
     czg-pin-read-requires
     czg-pin-read-with-card-requires
-    czg-pin-encipher-requires
-    czg-pin-encipher-with-card-requires
-    czg-pin-decipher-requires
-    czg-pin-decipher-with-card-requires
+    czg-pin-encrypt-requires
+    czg-pin-encrypt-with-card-requires
+    czg-pin-decrypt-requires
+    czg-pin-decrypt-with-card-requires
     same-length
     returns
     same-length-2

@@ -3,7 +3,7 @@ use borrow.Author.Needs.{needs}
 use native.Mathlib.Omega.{arith}
 use lib.ListN.{length-drop}
 use Rattle.czg.proofs.Adding.{added}
-use Rattle.czg.proofs.Bounds.{written-within}
+use Rattle.lent.proofs.Results.{written-within}
 use Rattle.czg.proofs.inputs.with_part.Statement.{statement}
 use Rattle.czg.proofs.inputs.with_part.Tie as tie
 

@@ -1,7 +1,8 @@
 -- `formed` meets its contract.
-use borrow.Author.Needs.{needs}
-use borrow.Author.Tests.{le-leb, lt-leb}
+use borrow.Author.Tests.{not-true, not-false}
+use mathlib.Core.Path.{sym, _∙_}
 use Rattle.message.specs.Fields.{formed}
+use borrow.Author.Needs.{needs}
 use Rattle.message.proofs.fields.formed.Statement.{statement}
 use Rattle.message.proofs.fields.formed.Tie as tie
 
@@ -13,38 +14,23 @@ enum-told c = search needs
 
 returns : tie.Need-returns
 unfolding formed
-returns c = simp (c .enum-told .given .1)
+returns c = rw (c .enum-told .given .1)
+
+sized-requires : tie.Need-sized-requires
+sized-requires c κs = search needs
 
 returns-2 : tie.Need-returns-2
 unfolding formed
-returns-2 c = simp (c .before .before .rule .given .1, lt-leb _ _ (c .if1 .taken))
+returns-2 c = rw (c .before .before .before .rule .given .1) (simp (sym (c .before .sized .ensures) ∙ not-true _ (c .if1 .taken)))
+
+shaped-requires : tie.Need-shaped-requires
+shaped-requires c κs = search needs
 
 returns-3 : tie.Need-returns-3
 unfolding formed
-returns-3 c =
-    simp (c .before .before .before .rule .given .1, le-leb _ _ (c .before .if1 .left), lt-leb _ _ (c .if2 .taken))
-
-all-permitted-requires : tie.Need-all-permitted-requires
-all-permitted-requires c κs = search needs
-
-returns-4 : tie.Need-returns-4
-unfolding formed
-returns-4 c =
-    simp (
-      c .before .before .before .before .rule .given .1,
-      le-leb _ _ (c .before .before .if1 .left),
-      le-leb _ _ (c .before .if2 .left),
-    )
-    (c .all-permitted .ensures)
+returns-3 c = rw (c .before .before .before .before .rule .given .1) (simp (sym (c .before .before .sized .ensures) ∙ not-false _ (c .before .if1 .left)) (c .shaped .ensures))
 
 pub formed-spec : {M : Type 1} → statement M
 formed-spec =
     tie.close
-    (tie.spec
-    enum-known-rule
-    enum-told
-    returns
-    returns-2
-    returns-3
-    all-permitted-requires
-    returns-4)
+    (tie.spec enum-known-rule enum-told returns sized-requires returns-2 shaped-requires returns-3)

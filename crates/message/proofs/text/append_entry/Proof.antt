@@ -1,7 +1,7 @@
 -- `append_entry` meets its contract.
-use borrow.Author.Needs.{needs}
 use Rattle.message.specs.Text.{entered}
-use Rattle.lent.proofs.Appending.{both-appended}
+use Rattle.message.proofs.Results.{both-appends}
+use borrow.Author.Needs.{needs}
 use Rattle.message.proofs.text.append_entry.Statement.{statement}
 use Rattle.message.proofs.text.append_entry.Tie as tie
 
@@ -48,18 +48,16 @@ same-length-2 c = search needs
 returns-2 : tie.Need-returns-2
 unfolding entered
 returns-2 c =
-    let known = c .before .before .before .before .before .before .before .before .before .before in
-    let room = rw (known .enum-told2 .given .1) at (known .before .before .before .before .pre) in
-    let digits = c .before .before .before .before .before .before .before .before .before .two-digits .ensures in
-    rw (known .enum-told2 .given .1)
-    (both-appended room (rw digits at (c .before .before .before .before .before .before .append2 .ensures)) (c .before .before .append3 .ensures))
+    let d = c .before .before .before .before .before .before in
+    rw (d .before .before .before .before .enum-told2 .given .1)
+    (both-appends (rw (d .before .before .before .two-digits .ensures) at (d .append2 .ensures)) (c .before .before .append3 .ensures))
 
 same-length-3 : tie.Need-same-length-3
 same-length-3 c = search needs
 
 returns-3 : tie.Need-returns-3
 unfolding entered
-returns-3 c = rw (c .before .before .before .before .before .before .entry .given .1, ← (c .before .before .before .first .ensures)) (c .before .before .append4 .ensures)
+returns-3 c = rw (c .before .before .before .before .before .before .entry .given .1, ← c .before .before .before .first .ensures) (c .before .before .append4 .ensures)
 
 pub append-entry-spec : {M : Type 1} → statement M
 append-entry-spec =

@@ -1,8 +1,8 @@
 -- `append_field` meets its contract.
-use borrow.Author.Needs.{needs}
-use native.Mathlib.Omega.{arith}
+use Rattle.lent.proofs.Appending.{nothing-appended}
 use Rattle.message.specs.Gathered.{spacedField}
-use Rattle.lent.proofs.Appending.{appended-end, appended-length, nothing-appended, both-appended}
+use Rattle.message.proofs.Results.{both-appends}
+use borrow.Author.Needs.{needs}
 use Rattle.message.proofs.text.append_field.Statement.{statement}
 use Rattle.message.proofs.text.append_field.Tie as tie
 
@@ -14,7 +14,7 @@ enum-told c = search needs
 
 returns : tie.Need-returns
 unfolding spacedField
-returns c = rw (c .enum-told .given .1) nothing-appended
+returns c = rw (c .enum-told .given .1) (λ room. nothing-appended)
 
 slice-aggregate-append : tie.Need-slice-aggregate-append
 slice-aggregate-append c = search needs
@@ -23,12 +23,7 @@ append-requires : tie.Need-append-requires
 append-requires c κs = search needs
 
 append-entry-requires : tie.Need-append-entry-requires
-unfolding spacedField
-append-entry-requires c κs =
-    let known = c .before .before .before .before .before .before .before in
-    let room = rw (known .rule .given .1) at (known .before .before .before .before .pre) in
-    let written = c .before .before .before .append .ensures in
-    omega (arith, appended-end written (omega arith), appended-length written (omega arith))
+append-entry-requires c κs = search needs
 
 same-length : tie.Need-same-length
 same-length c = search needs
@@ -36,10 +31,8 @@ same-length c = search needs
 returns-2 : tie.Need-returns-2
 unfolding spacedField
 returns-2 c =
-    let known = c .before .before .before .before .before .before .before .before .before .before in
-    let room = rw (known .rule .given .1) at (known .before .before .before .before .pre) in
-    rw (known .rule .given .1)
-    (both-appended room (c .before .before .before .before .before .before .append .ensures) (c .before .before .append-entry .ensures))
+    let d = c .before .before .before .before .before .before in
+    rw (d .before .before .before .before .rule .given .1) (both-appends (d .append .ensures) (c .before .before .append-entry .ensures))
 
 pub append-field-spec : {M : Type 1} → statement M
 append-field-spec =

@@ -1,16 +1,17 @@
 -- `message_text` meets its contract.
 use borrow.Author.Needs.{needs}
-use borrow.Author.Tests.{ne-eqb}
-use mathlib.Core.Path.{_≡_, sym}
+use mathlib.Core.Path.{sym}
 use Prim.Native.Nat.{_≤_}
 use native.Mathlib.Omega.{arith}
 use lib.ListN.{length, take}
 use lib.Seq.{length-take-le}
-use Rattle.lent.specs.Result.{done, refused, answerOf}
-use Rattle.lent.proofs.Results.{refused-written}
+use Rattle.lent.specs.Result.{done}
+use Rattle.lent.proofs.Results.{answered-done, answered-refused, refused-answer}
+use Rattle.cleaning.specs.Cleaning.{cleaned}
 use Rattle.cleaning.proofs.Laws.{clean-done}
 use Rattle.message.specs.Gathered.{gathered}
 use Rattle.message.proofs.Joining.{text-gathered}
+use Rattle.message.proofs.Results.{refuses-then}
 use Rattle.message.proofs.text.message_text.Statement.{statement}
 use Rattle.message.proofs.text.message_text.Tie as tie
 
@@ -24,12 +25,10 @@ refused-requires : tie.Need-refused-requires
 refused-requires c κs = search needs
 
 returns : tie.Need-returns
-unfolding answerOf
 returns c =
     let m = c .before .before .before .before .before .before .before .args .message .now in
-    let g = c .before .before .before .gather in
-    let e : gathered m ≡ refused (g .result .number) = simp (ne-eqb _ _ (c .before .if1 .taken)) at (g .ensures .value) in
-    refused-written (g .result .number) (rw (text-gathered m, e)) (cc) (cc)
+    let q = answered-refused 0 (gathered m) (c .before .before .before .gather .ensures .0) (c .before .if1 .taken) in
+    refused-answer (c .refused .ensures) (rw (text-gathered m) (refuses-then (λ g. done (cleaned g)) q))
 
 array-share-prefix-raw : tie.Need-array-share-prefix-raw
 array-share-prefix-raw c = search needs
@@ -44,14 +43,12 @@ same-length : tie.Need-same-length
 same-length c = search needs
 
 returns-2 : tie.Need-returns-2
-unfolding answerOf
 returns-2 c =
     let m = c .before .before .before .before .before .before .before .before .before .before .before .args .message .now in
     let g = c .before .before .before .before .before .before .before .gather in
     let v = take (g .result .length) (g .last .1 .0) in
     let short : length v ≤ 1024 = rw (length-take-le (g .result .length) (g .last .1 .0) (omega arith)) (omega arith) in
-    let e : gathered m ≡ done v = simp (c .before .before .before .before .before .if1 .left) at (g .ensures .value) in
-    rw (text-gathered m, e, ← clean-done v short) (c .before .before .clean .ensures)
+    rw (text-gathered m, answered-done 0 (gathered m) (g .ensures .0) (c .before .before .before .before .before .if1 .left), ← clean-done v short) (c .before .before .clean .ensures)
 
 pub message-text-spec : {M : Type 1} → statement M
 message-text-spec =

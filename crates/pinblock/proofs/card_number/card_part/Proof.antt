@@ -10,7 +10,7 @@ use Rattle.pinblock.proofs.card_number.card_part.Statement.{statement}
 use Rattle.pinblock.proofs.card_number.card_part.Tie as tie
 
 sub-start : tie.Need-sub-start
-sub-start c = card-long (c .before .args .card .now) (c .before .pre .0)
+sub-start c = omega (arith, card-long (c .before .args .card .now) (c .before .pre .0))
 
 part-end : tie.Need-part-with-half-bytes-end
 part-end c = omega (arith, card-long (c .before .args .card .now) (c .before .pre .0))

@@ -1,6 +1,6 @@
 -- `pinblock::half_bytes::with_half_bytes` meets its contract. The loop's invariant: the first i characters' half-bytes are put after the first ones.
 use borrow.Author.Needs.{needs}
-use mathlib.Core.Path.{_≡_, _∙_}
+use mathlib.Core.Path.{_≡_}
 use mathlib.Core.List.{List, _++_, map, append-nil}
 use Prim.Native.Nat.{ℕ, _≤_, _-_}
 use native.Mathlib.Omega.{arith}

@@ -1,13 +1,10 @@
 -- `pinblock::pin::pin_block` meets its contract.
 use borrow.Author.Needs.{needs}
-use mathlib.Core.Path.{_≡_, refl, sym, _∙_}
+use mathlib.Core.Path.{sym, _∙_}
 use mathlib.Core.List.{[], _∷_}
-use native.Mathlib.Nat.{mod-eq-of-lt, zero-add}
 use native.Mathlib.Omega.{arith}
 use lib.ListN.{length}
 use lib.Seq.{length-take-le}
-use Rattle.lent.specs.Words.{fromBase}
-use Rattle.pinblock.specs.Private.{wordOf}
 use Rattle.pinblock.proofs.Pins.{pin-short, pin-word, start-word}
 use Rattle.pinblock.proofs.pin.pin_block.Statement.{statement}
 use Rattle.pinblock.proofs.pin.pin_block.Tie as tie
