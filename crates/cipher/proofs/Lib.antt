@@ -6,6 +6,4 @@ mod Inverse
 mod Parity
 mod Permutation
 mod Range
-mod RoundKeys
-mod Substitution
 mod Vectors

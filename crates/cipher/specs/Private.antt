@@ -1,7 +1,7 @@
--- Only the contracts of private functions cite what stands here: the ranges of tables, and a step of the S-boxes.
+-- Only the contracts of private functions cite what stands here: the ranges of tables.
 use mathlib.Core.Path.{_≡_}
 use mathlib.Core.List.{List, [], _∷_}
-use Prim.Native.Nat.{ℕ, _+_, _*_, _<_, _≤_}
+use Prim.Native.Nat.{ℕ, _≤_}
 use lib.Dec.{leb, when}
 use lib.ListN.{length}
 
@@ -20,8 +20,3 @@ pub record Selection (width : ℕ) (table : List ℕ) : Type 0 where
 pub record SBox (table : List ℕ) : Type 0 where
   pub entries : inRange 0 15 table
   pub size : length table ≡ 64
-
--- r is the bits of `before`, and behind them the four bits of `four`
-pub record Behind (before four r : ℕ) : Type 0 where
-  pub value : r ≡ before * 16 + four
-  pub four-bits : four < 16

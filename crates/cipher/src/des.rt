@@ -39,8 +39,7 @@ pub fn encrypt_with(schedule: Schedule, block: u64) -> u64
     ensures { λ r. ⌜ r ≡ encryptedWith (schedule .keys) block ⌝ }
 {
     let keys = schedule.keys;
-    let x = initial_permutation(block);
-    final_permutation(rounds(keys, x >> 32, x % 0x1_0000_0000))
+    final_permutation(rounds(keys, initial_permutation(block)))
 }
 
 // A block decrypted under a schedule: the round keys are taken in reverse order.

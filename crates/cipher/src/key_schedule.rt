@@ -1,16 +1,14 @@
 // The key schedule: sixteen round keys from a key, and their reverse.
 use crate::bits::permute;
-use crate::bits::widen;
 use crate::tables::LEFT_SHIFTS;
 use crate::tables::PERMUTED_CHOICE_1;
 use crate::tables::PERMUTED_CHOICE_2;
 ghost use mathlib.Core.List.{reverse};
 ghost use mathlib.Core.Path.{_≡_};
 ghost use Prim.Native.Nat.{_^_, _<_, _≤_};
-ghost use lib.ListN.{getD};
 ghost use Rattle.cipher.specs.Bits.{permuted};
 ghost use Rattle.cipher.specs.Schedule.{roundKeys, rotatedLeft};
-ghost use Rattle.cipher.specs.Tables.{leftShifts, permutedChoice1, permutedChoice2};
+ghost use Rattle.cipher.specs.Tables.{permutedChoice1, permutedChoice2};
 
 // The sixteen round keys in the order in which they encrypt.
 pub struct Schedule {
@@ -31,14 +29,6 @@ fn permuted_choice_2(halves: u64) -> u64
     permute(56, &PERMUTED_CHOICE_2, halves)
 }
 
-// How many places C and D are rotated before a round.
-fn left_shift(round: usize) -> u64
-    requires { ⌜ round < 16 ⌝ }
-    ensures { λ r. ⌜ (r ≡ getD leftShifts round 0) × (r ≤ 2) ⌝ }
-{
-    widen(LEFT_SHIFTS[round])
-}
-
 // 28 bits rotated n places to the left.
 fn rotate_left(n: u64, half: u64) -> u64
     requires { ⌜ (n ≤ 2) × (half < 2 ^ 28) ⌝ }
@@ -57,7 +47,7 @@ pub(crate) fn round_keys(key: u64) -> [u64; 16]
     let mut keys = [0u64; 16];
     let mut i: usize = 0;
     while i < 16 {
-        let n = left_shift(i);
+        let n = LEFT_SHIFTS[i] as u64;
         c = rotate_left(n, c);
         d = rotate_left(n, d);
         keys[i] = permuted_choice_2(c * 0x1000_0000 + d);
@@ -73,7 +63,7 @@ pub(crate) fn reversed(keys: [u64; 16]) -> [u64; 16]
     let mut back = [0u64; 16];
     let mut i: usize = 0;
     while i < 16 {
-        back[i] = keys[15 - i];
+        back[15 - i] = keys[i];
         i += 1;
     }
     back

@@ -1,6 +1,5 @@
 // The cipher function f and the sixteen rounds.
 use crate::bits::permute;
-use crate::bits::widen;
 use crate::tables::EXPANSION;
 use crate::tables::ROUND_PERMUTATION;
 use crate::tables::S1;
@@ -12,9 +11,9 @@ use crate::tables::S6;
 use crate::tables::S7;
 use crate::tables::S8;
 ghost use mathlib.Core.Path.{_≡_};
-ghost use Prim.Native.Nat.{_%_, _^_, _<_};
+ghost use Prim.Native.Nat.{_+_, _*_, _/_, _%_, _^_, _<_};
 ghost use Rattle.cipher.specs.Bits.{permuted};
-ghost use Rattle.cipher.specs.Private.{SBox, Behind};
+ghost use Rattle.cipher.specs.Private.{SBox};
 ghost use Rattle.cipher.specs.Rounds;
 ghost use Rattle.cipher.specs.Tables;
 
@@ -25,29 +24,30 @@ fn expand(x: u64) -> u64
     permute(32, &EXPANSION, x)
 }
 
-// The bits of `before`, and behind them the four that an S-box gives for the last six of x.
-fn substitute_six(before: u64, table: &[u8; 64], x: u64) -> u64
-    requires { ⌜ (before < 2 ^ 28) × SBox (now table) ⌝ }
-    ensures { λ r. ⌜ Behind before (Rounds.sBox (now (table .entry)) (x % 64)) r ⌝ }
+// The bits of `before`, and after them the four that an S-box gives for six bits of x, which have `right` bits on their
+// right.
+fn substitute_six(before: u64, table: &[u8; 64], x: u64, right: u64) -> u64
+    requires { ⌜ (before < 2 ^ 28) × (right < 64) × SBox (now table) ⌝ }
+    ensures { λ r. ⌜ (r ≡ before * 16 + Rounds.sBox (now (table .entry)) (x / 2 ^ right % 64)) × (r < before * 16 + 16) ⌝ }
 {
-    let six = x % 64;
+    let six = (x >> right) % 64;
     let row = six / 32 * 2 + six % 2;
     let column = six / 2 % 16;
-    before * 16 + widen(table[(row * 16 + column) as usize])
+    before * 16 + table[(row * 16 + column) as usize] as u64
 }
 
 // The eight S-boxes: 48 bits to 32.
 fn substitute(x: u64) -> u64
     ensures { λ r. ⌜ r ≡ Rounds.substituted x ⌝ }
 {
-    let y1 = substitute_six(0, &S1, x >> 42);
-    let y2 = substitute_six(y1, &S2, x >> 36);
-    let y3 = substitute_six(y2, &S3, x >> 30);
-    let y4 = substitute_six(y3, &S4, x >> 24);
-    let y5 = substitute_six(y4, &S5, x >> 18);
-    let y6 = substitute_six(y5, &S6, x >> 12);
-    let y7 = substitute_six(y6, &S7, x >> 6);
-    substitute_six(y7, &S8, x)
+    let y1 = substitute_six(0, &S1, x, 42);
+    let y2 = substitute_six(y1, &S2, x, 36);
+    let y3 = substitute_six(y2, &S3, x, 30);
+    let y4 = substitute_six(y3, &S4, x, 24);
+    let y5 = substitute_six(y4, &S5, x, 18);
+    let y6 = substitute_six(y5, &S6, x, 12);
+    let y7 = substitute_six(y6, &S7, x, 6);
+    substitute_six(y7, &S8, x, 0)
 }
 
 // The permutation P.
@@ -64,13 +64,12 @@ fn round_function(right: u64, key: u64) -> u64
     round_permutation(substitute(expand(right) ^ key))
 }
 
-// The sixteen rounds; at their end the right half stands before the left.
-pub(crate) fn rounds(keys: [u64; 16], left: u64, right: u64) -> u64
-    requires { ⌜ (left < 2 ^ 32) × (right < 2 ^ 32) ⌝ }
-    ensures { λ y. ⌜ y ≡ Rounds.rounds keys left right ⌝ }
+// The sixteen rounds on the two halves of x; at their end the right half stands before the left.
+pub(crate) fn rounds(keys: [u64; 16], x: u64) -> u64
+    ensures { λ y. ⌜ y ≡ Rounds.rounded keys x ⌝ }
 {
-    let mut l = left;
-    let mut r = right;
+    let mut l = x >> 32;
+    let mut r = x % 0x1_0000_0000;
     let mut i: usize = 0;
     while i < 16 {
         let next = l ^ round_function(r, keys[i]);

@@ -41,7 +41,6 @@ pub use sizes::key_size;
 pub use sizes::sized;
 pub use words::byte_at;
 pub use words::bytes_of;
-pub use words::low_byte;
 pub use words::number_of;
 pub use words::right_half;
 pub use words::wide;

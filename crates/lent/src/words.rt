@@ -22,7 +22,7 @@ pub fn wide(x: u32) -> u64
 }
 
 // The lowest byte of x.
-pub fn low_byte(x: u64) -> u8
+fn low_byte(x: u64) -> u8
     ensures { λ r. ⌜ r ≡ x % 256 ⌝ }
 {
     (x % 256) as u8

@@ -54,7 +54,7 @@ allPlain (line ∷ lines) = both (plain (ascii line)) (allPlain lines)
 
 -- past n lines
 pub after-lines : (lines : List String) (n : ℕ) → allPlain lines ≡ true → after (joined lines) n ≡ joined (drop n lines)
-unfolding joined after allPlain
+unfolding after allPlain
 after-lines [] n p = rw (drop-nil {A = String} n)
 after-lines (line ∷ lines) zero p = after-none _
 after-lines (line ∷ lines) (suc n) p = let b = both-true _ _ p in after-line (ascii line) (joined lines) n (b .0) ∙ after-lines lines n (b .1)
@@ -63,7 +63,6 @@ after-lines (line ∷ lines) (suc n) p = let b = both-true _ _ p in after-line (
 pub line-found : (lines : List String) (s : List ℕ) (n start end : ℕ)
     → (start ≤ length s) × (drop start s ≡ joined (drop n lines)) → (end ≤ length s) × (drop end s ≡ joined (drop (n + 1) lines))
     → require (ltb n (length lines)) size (done (ascii (getD lines n ""))) ≡ require (ltb start end) size (done (take (end - 1 - start) (drop start s)))
-unfolding joined
 line-found lines s n start end f g =
     cases (ltb n (length lines))
     (λ t.

@@ -5,6 +5,6 @@ use Prim.Native.String.{String}
 use Rattle.meanings.specs.Ascii.{ascii}
 
 -- the lines, each ended by a line feed
-unfoldable pub joined : List String → List ℕ
+abbrev pub joined : List String → List ℕ
 joined [] = []
 joined (line ∷ lines) = ascii line ++ 10 ∷ joined lines

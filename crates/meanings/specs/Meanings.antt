@@ -9,7 +9,7 @@ use Rattle.lent.specs.Result.{Result, done, require}
 use Rattle.meanings.specs.Ascii.{ascii}
 
 -- of each number, from 0 on
-unfoldable pub meanings : List String
+abbrev pub meanings : List String
 meanings =
     "done"
     ∷ "message empty, or a record is cut short"

@@ -1,7 +1,7 @@
 // What the numbers that an operator sees mean.
 ghost use mathlib.Core.Path.{_≡_};
-ghost use Prim.Native.Nat.{_≤_};
-ghost use lib.ListN.{length, drop};
+ghost use Prim.Native.Nat.{_-_, _<_, _≤_};
+ghost use lib.ListN.{length, take, drop};
 ghost use Rattle.lent.specs.Result.{Written};
 ghost use Rattle.meanings.specs.Lines.{joined};
 ghost use Rattle.meanings.specs.Meanings;
@@ -26,6 +26,14 @@ fn line_start(text: &[u8], n: usize) -> usize
     i
 }
 
+// The line that starts there, up to the line feed before the next one's start.
+fn line(text: &[u8], start: usize, next: usize) -> &[u8]
+    requires { ⌜ (start < next) × (next ≤ length (now text)) ⌝ }
+    ensures { λ r. ⌜ now r ≡ take (next - 1 - start) (drop start (now (text .entry))) ⌝ }
+{
+    &text[start..next - 1]
+}
+
 // Writes the meaning of a number out of the text of all meanings. Refuses with 6 if it has none, 13 if the buffer is shorter.
 fn lend_line(text: &[u8], number: u32, out: &mut [u8]) -> lent::Answer
     requires { ⌜ now text ≡ joined meanings ⌝ }
@@ -33,11 +41,11 @@ fn lend_line(text: &[u8], number: u32, out: &mut [u8]) -> lent::Answer
 {
     let n = number as usize;
     let start = line_start(text, n);
-    let end = line_start(text, n + 1);
-    if end <= start {
+    let next = line_start(text, n + 1);
+    if next <= start {
         return lent::refused(lent::SIZE);
     }
-    lent::lend(&text[start..end - 1], out)
+    lent::lend(line(text, start, next), out)
 }
 
 // Writes the meaning of a number. Refuses with 6 if it is none, 13 if the buffer is shorter than the text.

@@ -43,7 +43,7 @@ text-written text x i b h n eb e =
 
 -- ---- the word of half-bytes
 
--- with one more behind them
+-- with one more after them
 one-more : (s : List ℕ) (h : ℕ) → wordOf (s ++ h ∷ []) ≡ (wordOf s * 16 + h) % 2 ^ 64
 unfolding wordOf fromBase
 one-more s h =

@@ -40,7 +40,7 @@ module _ {block : List ℕ} (b : Block block) where
   block-back : wordBytes (word block) ≡ block
   block-back = to-from 256 8 block (elements-below 256 block (lit< tt) (b .bytes)) (b .size)
 
--- A maker puts a change of a PIN's block into bytes, and its reader takes the change back before it reads.
+-- A maker whose block is the bytes of a PIN's block, changed, and a reader that first takes the change back.
 record Changes (forth back : ℕ → ℕ) (make read : List ℕ → Result (List ℕ)) : Type 0 where
   inverse : Inverse forth back
   maker : (pin : List ℕ) → permitted pin ≡ true → make pin ≡ done (wordBytes (forth (pinBlock pin)))

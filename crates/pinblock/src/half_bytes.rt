@@ -6,7 +6,7 @@ ghost use lib.ListN.{getD};
 ghost use Rattle.lent.specs.Words.{toBase};
 ghost use Rattle.pinblock.specs.Private.{lowHalf, wordOf};
 
-// The word of half-bytes, of which x is the word of the first, and then the low ones of a text's characters.
+// The word x with the low half-bytes of a text's characters put after its own; the highest are dropped.
 pub(crate) fn with_half_bytes(x: u64, text: &[u8]) -> u64
     ensures { λ r. ⌜ ((first : List ℕ) → x ≡ wordOf first → r ≡ wordOf (first ++ map lowHalf (now (text .entry)))) ⌝ }
 {

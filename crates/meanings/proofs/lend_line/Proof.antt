@@ -29,17 +29,8 @@ returns c =
         (b .before .line-start .ensures) (b .line-start2 .ensures) in
     refused-answer (c .refused .ensures) (size, refl, rw (le-ltb _ _ (c .before .if1 .taken)) at found)
 
-sub-lend : tie.Need-sub-lend
-sub-lend c = search needs
-
-sub-lend-2 : tie.Need-sub-lend-2
-sub-lend-2 c = search needs
-
-part-lend-start : tie.Need-part-lend-start
-part-lend-start c = search needs
-
-part-lend-end : tie.Need-part-lend-end
-part-lend-end c = search needs
+line-requires : tie.Need-line-requires
+line-requires c κs = search needs
 
 lend-requires : tie.Need-lend-requires
 lend-requires c κs = search needs
@@ -53,7 +44,8 @@ returns-2 c =
     let a = b .before .before .before .before .args in
     let found = line-found meanings (a .text .now) (a .number) (b .before .line-start .result) (b .line-start2 .result)
         (b .before .line-start .ensures) (b .line-start2 .ensures) in
-    rw (rw (lt-ltb _ _ (c .before .before .before .before .before .if1 .left)) at found) (c .before .before .lend .ensures)
+    let d = c .before .before .before .before in
+    rw (rw (lt-ltb _ _ (d .before .if1 .left)) at found, ← d .line .ensures) (c .before .before .lend .ensures)
 
 pub lend-line-spec : {M : Type 1} → statement M
 lend-line-spec =
@@ -64,10 +56,7 @@ lend-line-spec =
     line-start-requires-2
     refused-requires
     returns
-    sub-lend
-    sub-lend-2
-    part-lend-start
-    part-lend-end
+    line-requires
     lend-requires
     same-length
     returns-2)

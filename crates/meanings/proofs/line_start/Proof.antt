@@ -21,7 +21,7 @@ abbrev μ-loop : tie.MeasureT-loop
 μ-loop text n left₀ i₀ left i = length text - i
 
 loop-holds : tie.Need-loop-holds Inv-loop μ-loop
-unfolding meanings allPlain
+unfolding allPlain
 loop-holds c = (search needs, rw (c .pre) (after-lines meanings _ refl))
 
 returns : tie.Need-returns Inv-loop μ-loop

@@ -1,23 +1,23 @@
 -- `cipher::key_schedule::rotate_left` meets its contract.
+use Prim.Native.Nat.{_-_, _*_, _^_, _≤_}
+use native.Mathlib.Nat.{mul-le-mul-left}
+use native.Mathlib.Omega.{arith}
 use borrow.Author.Needs.{needs}
-use Rattle.cipher.proofs.RoundKeys.{rotation-fits, rotation}
+use lib.Pow.{pow-mono, shr-le}
+use Rattle.cipher.specs.Schedule.{rotatedLeft}
 use Rattle.cipher.proofs.key_schedule.rotate_left.Statement.{statement}
 use Rattle.cipher.proofs.key_schedule.rotate_left.Tie as tie
 
-shl-result : tie.Need-shl-result
-shl-result c = search needs
-
-sub-result : tie.Need-sub-result
-sub-result c = search needs
-
-shr-result : tie.Need-shr-result
-shr-result c = search needs
+-- no bit leaves the word on the left
+shifted : (c : tie.Start) → c .args .half * 2 ^ c .args .n ≤ c .args .half * 4
+shifted c = mul-le-mul-left (c .args .half) (pow-mono (c .pre .0))
 
 add-result : tie.Need-add-result
-add-result c = record { fits = rotation-fits (c .pre .0) (c .pre .1) }
+add-result c = omega (arith, shifted c, shr-le (c .args .half) (28 - c .args .n))
 
 returns : tie.Need-returns
-returns c = (rotation (c .pre .0) (c .pre .1), search needs)
+unfolding rotatedLeft
+returns c = omega (arith, shifted c)
 
 pub rotate-left-spec : {M : Type 1} → statement M
-rotate-left-spec = tie.close (tie.spec shl-result sub-result shr-result add-result returns)
+rotate-left-spec = tie.close (tie.spec (λ c. search needs) (λ c. search needs) (λ c. search needs) add-result returns)

@@ -39,6 +39,12 @@ czg-host-key-requires c κs = search needs
 czg-terminal-load-requires : tie.Need-czg-terminal-load-requires
 czg-terminal-load-requires c κs = search needs
 
+cast-czg-meaning : tie.Need-cast-czg-meaning
+cast-czg-meaning c = search needs
+
+czg-meaning-requires : tie.Need-czg-meaning-requires
+czg-meaning-requires c κs = search needs
+
 same-length : tie.Need-same-length
 same-length c = search needs
 
@@ -93,11 +99,18 @@ same-length-8 c = search needs
 
 returns-8 : tie.Need-returns-8
 unfolding answerAt answers
-returns-8 c =
+returns-8 c = rw (c .before .before .before .before .match .keys8) (c .before .before .czg-terminal-load .ensures)
+
+same-length-9 : tie.Need-same-length-9
+same-length-9 c = search needs
+
+returns-9 : tie.Need-returns-9
+unfolding answerAt answers
+returns-9 c =
     let s = c .before .before .before .before .before .before .before .before .before in
     let r = c .before .before .before .before .match .rest in
-    let e : s .args .place ≡ 22 = exactly (past (past (past (past (past (past (past (s .pre .0) (r .0 .0 .0 .0 .0 .0 .1)) (r .0 .0 .0 .0 .0 .1)) (r .0 .0 .0 .0 .1)) (r .0 .0 .0 .1)) (r .0 .0 .1)) (r .0 .1)) (r .1)) (s .pre .1) in
-    rw e (c .before .before .czg-terminal-load .ensures)
+    let e : s .args .place ≡ 23 = exactly (past (past (past (past (past (past (past (past (s .pre .0) (r .0 .0 .0 .0 .0 .0 .0 .1)) (r .0 .0 .0 .0 .0 .0 .1)) (r .0 .0 .0 .0 .0 .1)) (r .0 .0 .0 .0 .1)) (r .0 .0 .0 .1)) (r .0 .0 .1)) (r .0 .1)) (r .1)) (s .pre .1) in
+    rw e (c .before .before .czg-meaning .ensures)
 
 pub key-entry-spec : {M : Type 1} → statement M
 key-entry-spec =
@@ -114,6 +127,8 @@ key-entry-spec =
     czg-initial-key-requires
     czg-host-key-requires
     czg-terminal-load-requires
+    cast-czg-meaning
+    czg-meaning-requires
     same-length
     returns
     same-length-2
@@ -129,4 +144,6 @@ key-entry-spec =
     same-length-7
     returns-7
     same-length-8
-    returns-8)
+    returns-8
+    same-length-9
+    returns-9)
