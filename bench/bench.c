@@ -333,7 +333,7 @@ static uint64_t library_pin(size_t count)
     uint8_t out[8];
     for (size_t i = 0; i < count; i++) {
         size_t n = i % INPUTS;
-        must((int)czg_pin_encipher_with_card(pins[n], pin_sizes[n], cards[n], 16, keys[n], 16, out, 8).number, "czg_pin_encipher");
+        must((int)czg_pin_encrypt_with_card(keys[n], 16, pins[n], pin_sizes[n], cards[n], 16, out, 8).number, "czg_pin_encrypt");
         sum = add(sum, out);
     }
     return sum;
@@ -345,7 +345,7 @@ static uint64_t plain_pin(size_t count)
     uint8_t out[8];
     for (size_t i = 0; i < count; i++) {
         size_t n = i % INPUTS;
-        must(plain_pin_encipher(pins[n], pin_sizes[n], cards[n], 16, keys[n], 16, out), "plain_pin_encipher");
+        must(plain_pin_encrypt(keys[n], 16, pins[n], pin_sizes[n], cards[n], 16, out), "plain_pin_encrypt");
         sum = add(sum, out);
     }
     return sum;

@@ -40,10 +40,10 @@ static void step(const uint8_t key[8], const uint8_t serial[10], uint32_t counte
     put_counter(data, counter);
     for (int i = 0; i < 8; i++)
         data[i] ^= key[i];
-    uint8_t enciphered[8];
-    des(key, data, enciphered);
+    uint8_t encrypted[8];
+    des(key, data, encrypted);
     for (int i = 0; i < 8; i++)
-        out[i] = enciphered[i] ^ key[i];
+        out[i] = encrypted[i] ^ key[i];
 }
 
 int plain_host_key(const uint8_t derivation[16], const uint8_t serial[10], uint8_t out[8])
@@ -248,8 +248,8 @@ int plain_message_mac(const uint8_t key[8], const uint8_t *message, size_t size,
 
 /* ---- PIN blocks ---- */
 
-int plain_pin_encipher(const uint8_t *pin, size_t pin_size, const uint8_t *card, size_t card_size,
-                       const uint8_t *key, size_t key_size, uint8_t out[8])
+int plain_pin_encrypt(const uint8_t *key, size_t key_size, const uint8_t *pin, size_t pin_size,
+                      const uint8_t *card, size_t card_size, uint8_t out[8])
 {
     if (pin_size < 4 || pin_size > 12 || card_size < 13 || card_size > 19 || (key_size != 8 && key_size != 16))
         return 6;

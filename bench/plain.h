@@ -19,7 +19,7 @@ int plain_next_key(plain_terminal *terminal, uint8_t key[8], uint8_t serial[10])
 int plain_clean(const uint8_t *text, size_t size, uint8_t *out, size_t *length);
 int plain_text_mac(const uint8_t key[8], const uint8_t *text, size_t size, uint8_t out[8]);
 int plain_message_mac(const uint8_t key[8], const uint8_t *message, size_t size, uint8_t out[8]);
-int plain_pin_encipher(const uint8_t *pin, size_t pin_size, const uint8_t *card, size_t card_size,
-                       const uint8_t *key, size_t key_size, uint8_t out[8]);
+int plain_pin_encrypt(const uint8_t *key, size_t key_size, const uint8_t *pin, size_t pin_size,
+                      const uint8_t *card, size_t card_size, uint8_t out[8]);
 
 #endif

@@ -9,30 +9,15 @@
 
 #include "chizuregwo.h"
 
-/* What each number means. */
-static const char *const meanings[] = {
-    "done",
-    "message empty, or a record is cut short",
-    "first field is not 0, a field number is above 192, or not above the one before",
-    "message type does not start with 01, 02, 04 or 05",
-    "a listed field has the wrong length or characters",
-    "MAC asked over a text that is empty after cleaning",
-    "a length or size is outside its range",
-    "a character is not a digit, or not hexadecimal, where one is asked",
-    "a PIN block comes from no permitted PIN",
-    "the two halves of a derivation key are the same 8 bytes",
-    "host counter is 0 or has more than ten one bits",
-    "terminal state does not hang together",
-    "terminal exhausted",
-    "lent buffer shorter than the result",
-};
-
 /* Whether an entry was done; if not, prints what was refused and why. */
 static int done(const char *what, czg_answer answer)
 {
-    if (answer.number != CZG_DONE)
-        printf("%s: refused %u: %s\n", what, (unsigned)answer.number, meanings[answer.number]);
-    return answer.number == CZG_DONE;
+    uint8_t meaning[CZG_MOST_MEANING];
+    if (answer.number == CZG_DONE)
+        return 1;
+    czg_answer written = czg_meaning(answer.number, meaning, sizeof meaning);
+    printf("%s: refused %u: %.*s\n", what, (unsigned)answer.number, (int)written.length, (const char *)meaning);
+    return 0;
 }
 
 /* Prints bytes as capital hexadecimal digits. */
@@ -71,8 +56,8 @@ int main(int argc, char **argv)
     printf("text %.*s\n", (int)answer.length, (const char *)text);
     print_hex("mac", mac, sizeof mac);
 
-    answer = czg_pin_encipher_with_card(pin, strlen((const char *)pin), card, strlen((const char *)card),
-                                        pin_key, CZG_DOUBLE_KEY_SIZE, block, sizeof block);
+    answer = czg_pin_encrypt_with_card(pin_key, CZG_DOUBLE_KEY_SIZE, pin, strlen((const char *)pin),
+                                       card, strlen((const char *)card), block, sizeof block);
     if (!done("pin block", answer))
         return 1;
     print_hex("pin block", block, answer.length);

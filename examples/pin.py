@@ -1,14 +1,14 @@
 #!/usr/bin/env python3
 """PIN blocks and a terminal's first keys through build/libchizuregwo.so (make shared), by ctypes alone.
 
-PIN (1234 if not given) and CARD, a card number (4219876543210987), are digits. Writes the clear and the enciphered PIN block, the PIN read back, and
+PIN (1234 if not given) and CARD, a card number (4219876543210987), are digits. Writes the clear and the encrypted PIN block, the PIN read back, and
 three keys of a terminal beside the host's.
 """
 import ctypes
 import pathlib
 import sys
 
-CZG_DONE, CZG_RECORD_SIZE = 0, 187
+CZG_DONE, CZG_RECORD_SIZE, CZG_MOST_MEANING = 0, 187, 78
 USAGE = "usage: examples/pin.py [PIN [CARD]]   (make shared first)"
 LIBRARY = pathlib.Path(__file__).resolve().parent.parent / "build" / "libchizuregwo.so"
 
@@ -26,13 +26,19 @@ except OSError:
 
 
 class Answer(ctypes.Structure):
-    """What every entry answers."""
+    """What an entry answers."""
 
-    _fields_ = [("number", ctypes.c_uint32), ("length", ctypes.c_uint32)]
+    _fields_ = [("number", ctypes.c_uint32), ("length", ctypes.c_size_t)]
+
+
+def refuse(entry, number):
+    """Ends with a refusal's number and its meaning."""
+    meaning = call("czg_meaning", ctypes.c_uint32(number), room=CZG_MOST_MEANING)
+    sys.exit(f"{entry}: refused {number}: {meaning.decode()}")
 
 
 def call(entry, *inputs, room):
-    """Calls an entry on some bytes and numbers; gives the bytes that it wrote, or ends with the refusal's number."""
+    """Calls an entry on some bytes and numbers; gives the bytes that it wrote, or ends with the refusal."""
     arguments = []
     for given in inputs:
         if isinstance(given, bytes):
@@ -44,7 +50,7 @@ def call(entry, *inputs, room):
     function.restype = Answer
     answer = function(*arguments, out, ctypes.c_size_t(room))
     if answer.number != CZG_DONE:
-        sys.exit(f"{entry}: refused {answer.number}")
+        refuse(entry, answer.number)
     return out.raw[: answer.length]
 
 
@@ -56,7 +62,7 @@ def next_key(record):
     sizes = [ctypes.c_size_t(size) for size in (CZG_RECORD_SIZE, 8, 10)]
     answer = function(record, sizes[0], key, sizes[1], serial, sizes[2])
     if answer.number != CZG_DONE:
-        sys.exit(f"czg_terminal_next_key: refused {answer.number}")
+        refuse("czg_terminal_next_key", answer.number)
     return key.raw, serial.raw
 
 
@@ -65,9 +71,9 @@ card = sys.argv[2] if len(sys.argv) > 2 else "4219876543210987"
 pin, card = pin.encode(), card.encode()
 key = call("czg_key_entry", b"0123456789abcdefFEDCBA9876543210", ctypes.c_size_t(16), room=16)
 print("clear block     ", call("czg_pin_make_with_card", pin, card, room=8).hex().upper())
-block = call("czg_pin_encipher_with_card", pin, card, key, room=8)
-print("enciphered block", block.hex().upper())
-print("PIN             ", call("czg_pin_decipher_with_card", block, card, key, room=12).decode())
+block = call("czg_pin_encrypt_with_card", key, pin, card, room=8)
+print("encrypted block ", block.hex().upper())
+print("PIN             ", call("czg_pin_decrypt_with_card", key, block, card, room=12).decode())
 
 derivation_key = bytes.fromhex("51525457585B5D5E61626467686B6D6E")
 serial_number = bytes.fromhex("0123456789ABCDE00000")

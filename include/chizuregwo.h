@@ -4,9 +4,10 @@
  * DES and two-key triple DES, key entry, the MAC of a text and of an online message, PIN blocks, chip-card keys and
  * cryptograms, and DUKPT on the host and in the terminal. C99 and C++. Link with libchizuregwo.a.
  *
- * Every entry has one shape: what it reads (bytes lent as a pointer and a size; a number in four entries), what it
- * writes (bytes lent as a pointer and a size), and an answer by value. No entry keeps a pointer, allocates, or holds any
- * state between calls, so entries may be called from several threads at once.
+ * Every entry but czg_version has one shape: what it reads (bytes lent as a pointer and a size; a number in five
+ * entries), what it writes (bytes lent as a pointer and a size), and an answer by value. A key that is used comes first.
+ * No entry keeps a pointer, allocates, or holds any state between calls, so entries may be called from several threads at
+ * once.
  *
  * Done:    number is CZG_DONE and length says how many bytes were written, from the start of the buffer. The buffer's
  *          bytes after these are left as they were.
@@ -30,7 +31,10 @@
 extern "C" {
 #endif
 
-/* The numbers an operator sees. */
+/* The version of this header, 0.1.0: 10,000 times the major number plus 100 times the minor plus the patch. */
+#define CZG_VERSION 100
+
+/* The numbers an operator sees, each with its meaning, as czg_meaning writes it. */
 #define CZG_DONE 0          /* done */
 #define CZG_CUT_SHORT 1     /* message empty, or a record is cut short */
 #define CZG_FIELD_ORDER 2   /* first field is not 0, a field number is above 192, or not above the one before */
@@ -41,8 +45,8 @@ extern "C" {
 #define CZG_CHARACTER 7     /* a character is not a digit, or not hexadecimal, where one is asked */
 #define CZG_NO_SUCH_PIN 8   /* a PIN block comes from no permitted PIN */
 #define CZG_EQUAL_HALVES 9  /* the two halves of a derivation key are the same 8 bytes */
-#define CZG_COUNTER 10      /* host counter is 0 or has more than ten one bits */
-#define CZG_RECORD 11       /* terminal state does not hang together */
+#define CZG_BAD_COUNTER 10  /* host counter is 0 or has more than ten one bits */
+#define CZG_BAD_RECORD 11   /* terminal state does not hang together */
 #define CZG_EXHAUSTED 12    /* terminal exhausted */
 #define CZG_SHORT_BUFFER 13 /* lent buffer shorter than the result */
 
@@ -62,6 +66,7 @@ extern "C" {
 #define CZG_MOST_CARD_SEQUENCE 99   /* card sequence number, from 0 */
 #define CZG_MOST_CRYPTOGRAM_DATA 255 /* bytes under an ARQC, from 1 */
 #define CZG_TERMINAL_KEYS 1048575   /* keys that a terminal gives from loading to exhaustion */
+#define CZG_MOST_MEANING 78         /* the meaning of a number */
 
 /*
  * A terminal's record, 187 bytes:
@@ -81,23 +86,35 @@ extern "C" {
 #define CZG_RECORD_COUNTER 182
 #define CZG_RECORD_EXHAUSTED 186
 
-/* What every entry answers. */
+/* What every entry but czg_version answers. */
 typedef struct czg_answer {
     uint32_t number; /* CZG_DONE or the refusal's number */
-    uint32_t length; /* bytes written; 0 on a refusal */
+    size_t length;   /* bytes written; 0 on a refusal */
 } czg_answer;
+
+/* ---- The library itself ---- */
+
+/* The version of the library that is linked, made as CZG_VERSION is: where they differ, header and library do not belong together. */
+uint32_t czg_version(void);
+
+/*
+ * The meaning of a number from 0 to 13 as ASCII text, without an end mark: that of CZG_DONE is "done". Writes at most 78
+ * bytes.
+ * Refusals: 6 (number), 13.
+ */
+czg_answer czg_meaning(uint32_t number, uint8_t *out, size_t out_size);
 
 /* ---- The cipher ---- */
 
 /*
- * Enciphers a block of 8 bytes: DES (FIPS 46-3) under a key of 8 bytes; triple DES under one of 16, which encrypts with
+ * Encrypts a block of 8 bytes: DES (FIPS 46-3) under a key of 8 bytes; triple DES under one of 16, which encrypts with
  * the left half, decrypts with the right and encrypts with the left. Writes 8 bytes.
  * Refusals: 6 (key, block), 13.
  */
 czg_answer czg_encrypt(const uint8_t *key, size_t key_size, const uint8_t *block, size_t block_size,
                        uint8_t *out, size_t out_size);
 
-/* Deciphers: undoes czg_encrypt under the same key. Writes 8 bytes. Refusals: 6 (key, block), 13. */
+/* Decrypts: undoes czg_encrypt under the same key. Writes 8 bytes. Refusals: 6 (key, block), 13. */
 czg_answer czg_decrypt(const uint8_t *key, size_t key_size, const uint8_t *block, size_t block_size,
                        uint8_t *out, size_t out_size);
 
@@ -164,28 +181,28 @@ czg_answer czg_pin_read_with_card(const uint8_t *block, size_t block_size, const
                                   uint8_t *out, size_t out_size);
 
 /*
- * Enciphered PIN block without card number: the clear block under DES with a key of 8 bytes, under triple DES with one of
+ * Encrypted PIN block without card number: the clear block under DES with a key of 8 bytes, under triple DES with one of
  * 16. Writes 8 bytes.
- * Refusals: 6 (PIN, key), 7, 13.
+ * Refusals: 6 (key, PIN), 7, 13.
  */
-czg_answer czg_pin_encipher(const uint8_t *pin, size_t pin_size, const uint8_t *key, size_t key_size,
-                            uint8_t *out, size_t out_size);
+czg_answer czg_pin_encrypt(const uint8_t *key, size_t key_size, const uint8_t *pin, size_t pin_size,
+                           uint8_t *out, size_t out_size);
 
-/* The same with card number. Writes 8 bytes. Refusals: 6 (PIN, card number, key), 7 (PIN, card number), 13. */
-czg_answer czg_pin_encipher_with_card(const uint8_t *pin, size_t pin_size, const uint8_t *card, size_t card_size,
-                                      const uint8_t *key, size_t key_size, uint8_t *out, size_t out_size);
+/* The same with card number. Writes 8 bytes. Refusals: 6 (key, PIN, card number), 7 (PIN, card number), 13. */
+czg_answer czg_pin_encrypt_with_card(const uint8_t *key, size_t key_size, const uint8_t *pin, size_t pin_size,
+                                     const uint8_t *card, size_t card_size, uint8_t *out, size_t out_size);
 
 /*
- * The PIN of an enciphered block of 8 bytes, as text digits: deciphered under a key of 8 or 16 bytes and then read as a
+ * The PIN of an encrypted block of 8 bytes, as text digits: decrypted under a key of 8 or 16 bytes and then read as a
  * clear block.
- * Refusals: 6 (block, key), 8, 13.
+ * Refusals: 6 (key, block), 8, 13.
  */
-czg_answer czg_pin_decipher(const uint8_t *block, size_t block_size, const uint8_t *key, size_t key_size,
-                            uint8_t *out, size_t out_size);
+czg_answer czg_pin_decrypt(const uint8_t *key, size_t key_size, const uint8_t *block, size_t block_size,
+                           uint8_t *out, size_t out_size);
 
-/* The same with card number. Refusals: 6 (block, card number, key), 7, 8, 13. */
-czg_answer czg_pin_decipher_with_card(const uint8_t *block, size_t block_size, const uint8_t *card, size_t card_size,
-                                      const uint8_t *key, size_t key_size, uint8_t *out, size_t out_size);
+/* The same with card number. Refusals: 6 (key, block, card number), 7, 8, 13. */
+czg_answer czg_pin_decrypt_with_card(const uint8_t *key, size_t key_size, const uint8_t *block, size_t block_size,
+                                     const uint8_t *card, size_t card_size, uint8_t *out, size_t out_size);
 
 /* ---- The card's keys and cryptograms ---- */
 
@@ -232,7 +249,7 @@ czg_answer czg_arpc(const uint8_t *session_key, size_t session_key_size, const u
 
 /*
  * The initial key: under a derivation key of 16 bytes, triple DES of the serial number's first 8 bytes with the low five
- * bits cleared. A serial number has 10 bytes; its counter isn't looked at. Writes 8 bytes.
+ * bits cleared. A serial number has 10 bytes; its counter has no effect. Writes 8 bytes.
  * Refusals: 6 (derivation key, serial number), 9, 13.
  */
 czg_answer czg_initial_key(const uint8_t *derivation_key, size_t derivation_key_size,

@@ -28,7 +28,7 @@ static void same(const char *what, czg_answer answer, size_t size, const uint8_t
 {
     cases++;
     if (answer.number != CZG_DONE || answer.length != size || memcmp(out, bytes, size) != 0 || out[size] != 0xA5) {
-        printf("header: FAILED: %s: number %u, length %u\n", what, (unsigned)answer.number, (unsigned)answer.length);
+        printf("header: FAILED: %s: number %u, length %zu\n", what, (unsigned)answer.number, answer.length);
         failures++;
     }
     memset(out, 0xA5, sizeof out);
@@ -55,6 +55,14 @@ int main(void)
     size_t room = sizeof out;
     memset(out, 0xA5, room);
 
+    cases++;
+    if (czg_version() != CZG_VERSION) {
+        printf("header: FAILED: version: %u where the header has %u\n", (unsigned)czg_version(), (unsigned)CZG_VERSION);
+        failures++;
+    }
+    same("meaning", czg_meaning(CZG_EXHAUSTED, out, room), 18, text("terminal exhausted"));
+    refused("meaning, no room", czg_meaning(CZG_EXHAUSTED, out, 17), CZG_SHORT_BUFFER);
+    refused("meaning, 14", czg_meaning(14, out, room), CZG_SIZE);
     same("encrypt", czg_encrypt(hex("133457799BBCDFF1"), 8, hex("0123456789ABCDEF"), 8, out, room), 8, hex("85E813540F0AB405"));
     same("decrypt", czg_decrypt(hex("133457799BBCDFF1"), 8, hex("85E813540F0AB405"), 8, out, room), 8, hex("0123456789ABCDEF"));
     refused("encrypt", czg_encrypt(hex("133457799BBCDFF1"), 7, hex("0123456789ABCDEF"), 8, out, room), CZG_SIZE);
@@ -76,11 +84,11 @@ int main(void)
     same("pin_read", czg_pin_read(hex("041234FFFFFFFFFF"), 8, out, room), 4, text("1234"));
     refused("pin_read", czg_pin_read(hex("03123FFFFFFFFFFF"), 8, out, room), CZG_NO_SUCH_PIN);
     same("pin_read_with_card", czg_pin_read_with_card(hex("0412AC89ABCDEF67"), 8, card, 16, out, room), 4, text("1234"));
-    same("pin_encipher", czg_pin_encipher(text("1234"), 4, hex("0123456789ABCDEF"), 8, out, room), 8, hex("286344C32894AFB6"));
-    same("pin_encipher_with_card", czg_pin_encipher_with_card(text("1234"), 4, card, 16, hex("0123456789ABCDEF"), 8, out, room),
+    same("pin_encrypt", czg_pin_encrypt(hex("0123456789ABCDEF"), 8, text("1234"), 4, out, room), 8, hex("286344C32894AFB6"));
+    same("pin_encrypt_with_card", czg_pin_encrypt_with_card(hex("0123456789ABCDEF"), 8, text("1234"), 4, card, 16, out, room),
          8, hex("864C0D7C2D6C8B94"));
-    same("pin_decipher", czg_pin_decipher(hex("286344C32894AFB6"), 8, hex("0123456789ABCDEF"), 8, out, room), 4, text("1234"));
-    same("pin_decipher_with_card", czg_pin_decipher_with_card(hex("864C0D7C2D6C8B94"), 8, card, 16, hex("0123456789ABCDEF"), 8, out, room),
+    same("pin_decrypt", czg_pin_decrypt(hex("0123456789ABCDEF"), 8, hex("286344C32894AFB6"), 8, out, room), 4, text("1234"));
+    same("pin_decrypt_with_card", czg_pin_decrypt_with_card(hex("0123456789ABCDEF"), 8, hex("864C0D7C2D6C8B94"), 8, card, 16, out, room),
          4, text("1234"));
 
     same("derivation_data", czg_derivation_data(text("6228000100001"), 13, 1, out, room), 8, hex("0622800010000101"));
@@ -98,7 +106,7 @@ int main(void)
     same("initial_key", czg_initial_key(hex(derivation), 16, hex(serial), 10, out, room), 8, hex("21EE7C08DBE820AB"));
     same("host_key", czg_host_key(hex(derivation), 16, hex(serial), 10, out, room), 8, hex("670B395E6CFB60C2"));
     refused("host_key, halves", czg_host_key(hex("51525457585B5D5E51525457585B5D5E"), 16, hex(serial), 10, out, room), CZG_EQUAL_HALVES);
-    refused("host_key, counter", czg_host_key(hex(derivation), 16, hex("0123456789ABCDE00000"), 10, out, room), CZG_COUNTER);
+    refused("host_key, counter", czg_host_key(hex(derivation), 16, hex("0123456789ABCDE00000"), 10, out, room), CZG_BAD_COUNTER);
 
     /* The terminal's first key is the host's for counter 1; its record has its parts where the header says. */
     uint8_t record[CZG_RECORD_SIZE], host[8], number[CZG_SERIAL_NUMBER_SIZE] = {0};
@@ -117,7 +125,7 @@ int main(void)
     memcpy(out, record + CZG_RECORD_COUNTER, 4);
     same("counter", (czg_answer){CZG_DONE, 4}, 4, hex("00000002"));
     memset(record, 0, sizeof record);
-    refused("next_key, zeros", czg_terminal_next_key(record, sizeof record, out, 8, number, 10), CZG_RECORD);
+    refused("next_key, zeros", czg_terminal_next_key(record, sizeof record, out, 8, number, 10), CZG_BAD_RECORD);
     record[CZG_RECORD_EXHAUSTED] = 1;
     refused("next_key, exhausted", czg_terminal_next_key(record, sizeof record, out, 8, number, 10), CZG_EXHAUSTED);
 

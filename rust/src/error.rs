@@ -25,16 +25,18 @@ pub enum Error {
     /// 9: the two halves of a derivation key are the same 8 bytes.
     EqualHalves,
     /// 10: host counter is 0 or has more than ten one bits.
-    Counter,
+    BadCounter,
     /// 11: terminal state does not hang together.
-    Record,
+    BadRecord,
     /// 12: terminal exhausted.
     Exhausted,
     /// 13: lent buffer shorter than the result.
     ShortBuffer,
+    /// A number that has no meaning in this version of the crate, such as one that an archive of another version answers.
+    Unknown(u32),
 }
 
-/// Every refusal, from 1 to 13.
+/// Every refusal that has a meaning, from 1 to 13.
 const ALL: [Error; 13] = [
     Error::CutShort,
     Error::FieldOrder,
@@ -45,45 +47,61 @@ const ALL: [Error; 13] = [
     Error::Character,
     Error::NoSuchPin,
     Error::EqualHalves,
-    Error::Counter,
-    Error::Record,
+    Error::BadCounter,
+    Error::BadRecord,
     Error::Exhausted,
     Error::ShortBuffer,
 ];
 
 impl Error {
-    /// The refusal of a number from 1 to 13.
+    /// The refusal of a number; none for 0, which is done.
+    ///
+    /// ```
+    /// use chizuregwo::Error;
+    /// assert_eq!(Error::from_number(0), None);
+    /// assert_eq!(Error::from_number(6), Some(Error::Size));
+    /// assert_eq!(Error::from_number(14), Some(Error::Unknown(14)));
+    /// ```
     pub fn from_number(number: u32) -> Option<Error> {
-        let place = usize::try_from(number).ok()?.checked_sub(1)?;
-        ALL.get(place).copied()
+        let place = usize::try_from(number.checked_sub(1)?).ok();
+        let known = place.and_then(|place| ALL.get(place)).copied();
+        Some(known.unwrap_or(Error::Unknown(number)))
     }
 
-    /// Its number, from 1 to 13.
-    pub fn number(self) -> u32 {
-        self as u32 + 1
-    }
-
-    /// What its number means.
-    pub fn meaning(self) -> &'static str {
+    /// Its number and what that means.
+    fn described(self) -> (u32, &'static str) {
         match self {
-            Error::CutShort => "message empty, or a record is cut short",
-            Error::FieldOrder => {
-                "first field is not 0, a field number is above 192, or not above the one before"
-            }
-            Error::MessageType => "message type does not start with 01, 02, 04 or 05",
-            Error::FieldForm => "a listed field has the wrong length or characters",
-            Error::EmptyText => "MAC asked over a text that is empty after cleaning",
-            Error::Size => "a length or size is outside its range",
-            Error::Character => {
-                "a character is not a digit, or not hexadecimal, where one is asked"
-            }
-            Error::NoSuchPin => "a PIN block comes from no permitted PIN",
-            Error::EqualHalves => "the two halves of a derivation key are the same 8 bytes",
-            Error::Counter => "host counter is 0 or has more than ten one bits",
-            Error::Record => "terminal state does not hang together",
-            Error::Exhausted => "terminal exhausted",
-            Error::ShortBuffer => "lent buffer shorter than the result",
+            Error::CutShort => (1, "message empty, or a record is cut short"),
+            Error::FieldOrder => (
+                2,
+                "first field is not 0, a field number is above 192, or not above the one before",
+            ),
+            Error::MessageType => (3, "message type does not start with 01, 02, 04 or 05"),
+            Error::FieldForm => (4, "a listed field has the wrong length or characters"),
+            Error::EmptyText => (5, "MAC asked over a text that is empty after cleaning"),
+            Error::Size => (6, "a length or size is outside its range"),
+            Error::Character => (
+                7,
+                "a character is not a digit, or not hexadecimal, where one is asked",
+            ),
+            Error::NoSuchPin => (8, "a PIN block comes from no permitted PIN"),
+            Error::EqualHalves => (9, "the two halves of a derivation key are the same 8 bytes"),
+            Error::BadCounter => (10, "host counter is 0 or has more than ten one bits"),
+            Error::BadRecord => (11, "terminal state does not hang together"),
+            Error::Exhausted => (12, "terminal exhausted"),
+            Error::ShortBuffer => (13, "lent buffer shorter than the result"),
+            Error::Unknown(number) => (number, "a number without a meaning"),
         }
+    }
+
+    /// Its number.
+    pub fn number(self) -> u32 {
+        self.described().0
+    }
+
+    /// What its number means: for 1 to 13 the text of [`meaning`](crate::meaning).
+    pub fn meaning(self) -> &'static str {
+        self.described().1
     }
 }
 

@@ -7,21 +7,21 @@
 
 use crate::Error;
 
-/// What every entry answers.
+/// What every entry but `czg_version` answers.
 #[repr(C)]
 struct Answer {
     number: u32,
-    length: u32,
+    length: usize,
 }
 
 impl Answer {
     /// Done with a length, or the refusal of a number.
     fn result(self) -> Result<usize, Error> {
-        match self.number {
-            0 => Ok(self.length as usize),
-            number => {
+        match Error::from_number(self.number) {
+            None => Ok(self.length),
+            Some(error) => {
                 debug_assert_eq!(self.length, 0, "the length of a refusal");
-                Err(Error::from_number(number).expect("a number from 0 to 13"))
+                Err(error)
             }
         }
     }
@@ -35,6 +35,8 @@ type Buffer = *mut u8;
 // The entries as chizuregwo.h declares them.
 #[rustfmt::skip]
 extern "C" {
+    fn czg_version() -> u32;
+    fn czg_meaning(number: u32, out: Buffer, out_size: usize) -> Answer;
     fn czg_encrypt(key: Bytes, key_size: usize, block: Bytes, block_size: usize,
         out: Buffer, out_size: usize) -> Answer;
     fn czg_decrypt(key: Bytes, key_size: usize, block: Bytes, block_size: usize,
@@ -52,14 +54,14 @@ extern "C" {
     fn czg_pin_read(block: Bytes, block_size: usize, out: Buffer, out_size: usize) -> Answer;
     fn czg_pin_read_with_card(block: Bytes, block_size: usize, card: Bytes, card_size: usize,
         out: Buffer, out_size: usize) -> Answer;
-    fn czg_pin_encipher(pin: Bytes, pin_size: usize, key: Bytes, key_size: usize,
+    fn czg_pin_encrypt(key: Bytes, key_size: usize, pin: Bytes, pin_size: usize,
         out: Buffer, out_size: usize) -> Answer;
-    fn czg_pin_encipher_with_card(pin: Bytes, pin_size: usize, card: Bytes, card_size: usize,
-        key: Bytes, key_size: usize, out: Buffer, out_size: usize) -> Answer;
-    fn czg_pin_decipher(block: Bytes, block_size: usize, key: Bytes, key_size: usize,
+    fn czg_pin_encrypt_with_card(key: Bytes, key_size: usize, pin: Bytes, pin_size: usize,
+        card: Bytes, card_size: usize, out: Buffer, out_size: usize) -> Answer;
+    fn czg_pin_decrypt(key: Bytes, key_size: usize, block: Bytes, block_size: usize,
         out: Buffer, out_size: usize) -> Answer;
-    fn czg_pin_decipher_with_card(block: Bytes, block_size: usize, card: Bytes, card_size: usize,
-        key: Bytes, key_size: usize, out: Buffer, out_size: usize) -> Answer;
+    fn czg_pin_decrypt_with_card(key: Bytes, key_size: usize, block: Bytes, block_size: usize,
+        card: Bytes, card_size: usize, out: Buffer, out_size: usize) -> Answer;
     fn czg_derivation_data(card: Bytes, card_size: usize, sequence: u32, out: Buffer, out_size: usize) -> Answer;
     fn czg_card_key(master_key: Bytes, master_key_size: usize, card: Bytes, card_size: usize,
         sequence: u32, out: Buffer, out_size: usize) -> Answer;
@@ -80,10 +82,21 @@ extern "C" {
 
 /// Calls an entry on some slices, a number where it takes one, and the buffer that it writes.
 macro_rules! call {
-    ($entry:ident($($bytes:ident),+ $(; $number:ident)?) into $out:ident) => {
+    ($entry:ident($($bytes:ident),* $(; $number:ident)?) into $out:ident) => {
         // SAFETY: each pointer and size are those of one slice, and `out`, being lent to be changed, overlaps none.
-        unsafe { $entry($($bytes.as_ptr(), $bytes.len(),)+ $($number,)? $out.as_mut_ptr(), $out.len()) }.result()
+        unsafe { $entry($($bytes.as_ptr(), $bytes.len(),)* $($number,)? $out.as_mut_ptr(), $out.len()) }.result()
     };
+}
+
+/// [`version`](crate::version).
+pub fn version() -> u32 {
+    // SAFETY: it takes nothing and reads no memory of the caller's.
+    unsafe { czg_version() }
+}
+
+/// [`meaning`](crate::meaning) into a buffer.
+pub fn meaning(number: u32, out: &mut [u8]) -> Result<usize, Error> {
+    call!(czg_meaning(; number) into out)
 }
 
 /// [`encrypt`](crate::encrypt) into a buffer.
@@ -141,34 +154,34 @@ pub fn pin_read_with_card(block: &[u8], card: &[u8], out: &mut [u8]) -> Result<u
     call!(czg_pin_read_with_card(block, card) into out)
 }
 
-/// [`pin_encipher`](crate::pin_encipher) into a buffer.
-pub fn pin_encipher(pin: &[u8], key: &[u8], out: &mut [u8]) -> Result<usize, Error> {
-    call!(czg_pin_encipher(pin, key) into out)
+/// [`pin_encrypt`](crate::pin_encrypt) into a buffer.
+pub fn pin_encrypt(key: &[u8], pin: &[u8], out: &mut [u8]) -> Result<usize, Error> {
+    call!(czg_pin_encrypt(key, pin) into out)
 }
 
-/// [`pin_encipher_with_card`](crate::pin_encipher_with_card) into a buffer.
-pub fn pin_encipher_with_card(
+/// [`pin_encrypt_with_card`](crate::pin_encrypt_with_card) into a buffer.
+pub fn pin_encrypt_with_card(
+    key: &[u8],
     pin: &[u8],
     card: &[u8],
-    key: &[u8],
     out: &mut [u8],
 ) -> Result<usize, Error> {
-    call!(czg_pin_encipher_with_card(pin, card, key) into out)
+    call!(czg_pin_encrypt_with_card(key, pin, card) into out)
 }
 
-/// [`pin_decipher`](crate::pin_decipher) into a buffer.
-pub fn pin_decipher(block: &[u8], key: &[u8], out: &mut [u8]) -> Result<usize, Error> {
-    call!(czg_pin_decipher(block, key) into out)
+/// [`pin_decrypt`](crate::pin_decrypt) into a buffer.
+pub fn pin_decrypt(key: &[u8], block: &[u8], out: &mut [u8]) -> Result<usize, Error> {
+    call!(czg_pin_decrypt(key, block) into out)
 }
 
-/// [`pin_decipher_with_card`](crate::pin_decipher_with_card) into a buffer.
-pub fn pin_decipher_with_card(
+/// [`pin_decrypt_with_card`](crate::pin_decrypt_with_card) into a buffer.
+pub fn pin_decrypt_with_card(
+    key: &[u8],
     block: &[u8],
     card: &[u8],
-    key: &[u8],
     out: &mut [u8],
 ) -> Result<usize, Error> {
-    call!(czg_pin_decipher_with_card(block, card, key) into out)
+    call!(czg_pin_decrypt_with_card(key, block, card) into out)
 }
 
 /// [`derivation_data`](crate::derivation_data) into a buffer.
@@ -247,4 +260,20 @@ pub fn terminal_next_key(
         )
     }
     .result()
+}
+
+#[cfg(test)]
+mod tests {
+    use super::*;
+
+    #[test]
+    fn answers_of_every_number_are_values() {
+        let result = |number, length| Answer { number, length }.result();
+        assert_eq!(result(0, 8), Ok(8));
+        assert_eq!(result(0, usize::MAX), Ok(usize::MAX));
+        assert_eq!(result(13, 0), Err(Error::ShortBuffer));
+        for number in [14, 255, 256, 256 + 6, u32::MAX] {
+            assert_eq!(result(number, 0), Err(Error::Unknown(number)));
+        }
+    }
 }

@@ -1,8 +1,8 @@
 //! The cryptography of rented card terminals: DES and two-key triple DES, key entry, the MAC of a text and of an online
 //! message, PIN blocks, chip-card keys and cryptograms, and DUKPT on the host and in the terminal.
 //!
-//! Safe functions over `libchizuregwo.a`, one for each of its entries. Each returns the result, or an [`Error`] with the
-//! refusal's number and meaning. The module [`lent`] has the same entries over buffers of the caller's own.
+//! Safe functions over `libchizuregwo.a`, one for each of its entries. Each but [`version`] returns the result, or an
+//! [`Error`] with the refusal's number and meaning. The module [`lent`] has the same entries over buffers of the caller's own.
 //!
 //! Where several refusals apply, the error is the first in the order that stands with the function.
 
@@ -29,6 +29,9 @@ pub const MOST_MESSAGE_TEXT: usize = 166;
 /// Most digits of a PIN.
 pub const MOST_PIN: usize = 12;
 
+/// Most characters of the meaning of a number.
+pub const MOST_MEANING: usize = 78;
+
 /// A result of fixed size.
 fn fixed<const N: usize>(
     entry: impl FnOnce(&mut [u8]) -> Result<usize, Error>,
@@ -50,24 +53,47 @@ fn at_most(
     Ok(out)
 }
 
-/// Enciphers a block of 8 bytes: DES under a key of 8 bytes, triple DES under one of 16. Refusals: 6.
+/// The version of the library that is linked: 10,000 times the major number plus 100 times the minor plus the patch.
+///
+/// ```
+/// assert_eq!(chizuregwo::version(), 100);
+/// ```
+pub fn version() -> u32 {
+    lent::version()
+}
+
+/// The meaning of a number from 0 to 13. Refusals: 6.
+///
+/// ```
+/// use chizuregwo::{meaning, Error};
+/// assert_eq!(meaning(0)?, "done");
+/// assert_eq!(meaning(12)?, Error::Exhausted.meaning());
+/// assert_eq!(meaning(14), Err(Error::Size));
+/// # Ok::<(), Error>(())
+/// ```
+pub fn meaning(number: u32) -> Result<String, Error> {
+    let text = at_most(MOST_MEANING, |out| lent::meaning(number, out))?;
+    Ok(String::from_utf8_lossy(&text).into_owned())
+}
+
+/// Encrypts a block of 8 bytes: DES under a key of 8 bytes, triple DES under one of 16. Refusals: 6.
 ///
 /// ```
 /// let key = [0x13, 0x34, 0x57, 0x79, 0x9B, 0xBC, 0xDF, 0xF1];
 /// let block = [0x01, 0x23, 0x45, 0x67, 0x89, 0xAB, 0xCD, 0xEF];
-/// let enciphered = [0x85, 0xE8, 0x13, 0x54, 0x0F, 0x0A, 0xB4, 0x05];
-/// assert_eq!(chizuregwo::encrypt(&key, &block), Ok(enciphered));
+/// let encrypted = [0x85, 0xE8, 0x13, 0x54, 0x0F, 0x0A, 0xB4, 0x05];
+/// assert_eq!(chizuregwo::encrypt(&key, &block), Ok(encrypted));
 /// ```
 pub fn encrypt(key: &[u8], block: &[u8]) -> Result<Block, Error> {
     fixed(|out| lent::encrypt(key, block, out))
 }
 
-/// Deciphers: undoes [`encrypt`] under the same key. Refusals: 6.
+/// Decrypts: undoes [`encrypt`] under the same key. Refusals: 6.
 ///
 /// ```
 /// let key = *b"left halrightha.";
-/// let enciphered = chizuregwo::encrypt(&key, b"a block.")?;
-/// assert_eq!(&chizuregwo::decrypt(&key, &enciphered)?, b"a block.");
+/// let encrypted = chizuregwo::encrypt(&key, b"a block.")?;
+/// assert_eq!(&chizuregwo::decrypt(&key, &encrypted)?, b"a block.");
 /// # Ok::<(), chizuregwo::Error>(())
 /// ```
 pub fn decrypt(key: &[u8], block: &[u8]) -> Result<Block, Error> {
@@ -175,55 +201,55 @@ pub fn pin_read_with_card(block: &[u8], card: &[u8]) -> Result<Vec<u8>, Error> {
     at_most(MOST_PIN, |out| lent::pin_read_with_card(block, card, out))
 }
 
-/// Enciphered PIN block without card number: DES under a key of 8 bytes, triple DES under one of 16. Refusals: 6, 7.
+/// Encrypted PIN block without card number: DES under a key of 8 bytes, triple DES under one of 16. Refusals: 6, 7.
 ///
 /// ```
-/// use chizuregwo::{encrypt, pin_encipher, pin_make};
+/// use chizuregwo::{encrypt, pin_encrypt, pin_make};
 /// let key = *b"PIN key.";
-/// assert_eq!(pin_encipher(b"1234", &key)?, encrypt(&key, &pin_make(b"1234")?)?);
+/// assert_eq!(pin_encrypt(&key, b"1234")?, encrypt(&key, &pin_make(b"1234")?)?);
 /// # Ok::<(), chizuregwo::Error>(())
 /// ```
-pub fn pin_encipher(pin: &[u8], key: &[u8]) -> Result<Block, Error> {
-    fixed(|out| lent::pin_encipher(pin, key, out))
+pub fn pin_encrypt(key: &[u8], pin: &[u8]) -> Result<Block, Error> {
+    fixed(|out| lent::pin_encrypt(key, pin, out))
 }
 
-/// Enciphered PIN block with card number. Refusals: 6, 7.
+/// Encrypted PIN block with card number. Refusals: 6, 7.
 ///
 /// ```
-/// use chizuregwo::{encrypt, pin_encipher_with_card, pin_make_with_card};
+/// use chizuregwo::{encrypt, pin_encrypt_with_card, pin_make_with_card};
 /// let (key, card) = (*b"double PIN key..", b"4219876543210987");
 /// let clear = pin_make_with_card(b"1234", card)?;
-/// assert_eq!(pin_encipher_with_card(b"1234", card, &key)?, encrypt(&key, &clear)?);
+/// assert_eq!(pin_encrypt_with_card(&key, b"1234", card)?, encrypt(&key, &clear)?);
 /// # Ok::<(), chizuregwo::Error>(())
 /// ```
-pub fn pin_encipher_with_card(pin: &[u8], card: &[u8], key: &[u8]) -> Result<Block, Error> {
-    fixed(|out| lent::pin_encipher_with_card(pin, card, key, out))
+pub fn pin_encrypt_with_card(key: &[u8], pin: &[u8], card: &[u8]) -> Result<Block, Error> {
+    fixed(|out| lent::pin_encrypt_with_card(key, pin, card, out))
 }
 
-/// The PIN of an enciphered block of 8 bytes, as text digits. Refusals: 6, 8.
+/// The PIN of an encrypted block of 8 bytes, as text digits. Refusals: 6, 8.
 ///
 /// ```
-/// use chizuregwo::{pin_decipher, pin_encipher};
-/// let block = pin_encipher(b"987654", b"PIN key.")?;
-/// assert_eq!(pin_decipher(&block, b"PIN key.")?, b"987654");
+/// use chizuregwo::{pin_decrypt, pin_encrypt};
+/// let block = pin_encrypt(b"PIN key.", b"987654")?;
+/// assert_eq!(pin_decrypt(b"PIN key.", &block)?, b"987654");
 /// # Ok::<(), chizuregwo::Error>(())
 /// ```
-pub fn pin_decipher(block: &[u8], key: &[u8]) -> Result<Vec<u8>, Error> {
-    at_most(MOST_PIN, |out| lent::pin_decipher(block, key, out))
+pub fn pin_decrypt(key: &[u8], block: &[u8]) -> Result<Vec<u8>, Error> {
+    at_most(MOST_PIN, |out| lent::pin_decrypt(key, block, out))
 }
 
-/// The PIN of an enciphered block with card number. Refusals: 6, 7, 8.
+/// The PIN of an encrypted block with card number. Refusals: 6, 7, 8.
 ///
 /// ```
-/// use chizuregwo::{pin_decipher_with_card, pin_encipher_with_card};
+/// use chizuregwo::{pin_decrypt_with_card, pin_encrypt_with_card};
 /// let card = b"4219876543210987";
-/// let block = pin_encipher_with_card(b"987654", card, b"PIN key.")?;
-/// assert_eq!(pin_decipher_with_card(&block, card, b"PIN key.")?, b"987654");
+/// let block = pin_encrypt_with_card(b"PIN key.", b"987654", card)?;
+/// assert_eq!(pin_decrypt_with_card(b"PIN key.", &block, card)?, b"987654");
 /// # Ok::<(), chizuregwo::Error>(())
 /// ```
-pub fn pin_decipher_with_card(block: &[u8], card: &[u8], key: &[u8]) -> Result<Vec<u8>, Error> {
+pub fn pin_decrypt_with_card(key: &[u8], block: &[u8], card: &[u8]) -> Result<Vec<u8>, Error> {
     at_most(MOST_PIN, |out| {
-        lent::pin_decipher_with_card(block, card, key, out)
+        lent::pin_decrypt_with_card(key, block, card, out)
     })
 }
 
@@ -312,7 +338,7 @@ pub fn initial_key(derivation_key: &[u8], serial_number: &[u8]) -> Result<Block,
 /// let serial_number = [0x01, 0x23, 0x45, 0x67, 0x89, 0xAB, 0xCD, 0xF0, 0x00, 0x01];
 /// let key = host_key(&derivation_key, &serial_number)?;
 /// assert_eq!(key.to_vec(), key_entry(b"670B395E6CFB60C2", 8)?);
-/// assert_eq!(host_key(&derivation_key, &[0; 10]), Err(Error::Counter));
+/// assert_eq!(host_key(&derivation_key, &[0; 10]), Err(Error::BadCounter));
 /// # Ok::<(), Error>(())
 /// ```
 pub fn host_key(derivation_key: &[u8], serial_number: &[u8]) -> Result<Block, Error> {

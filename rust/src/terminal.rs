@@ -64,7 +64,7 @@ impl Terminal {
     /// use chizuregwo::{Error, Terminal};
     /// let loaded = Terminal::load(&[1; 8], &[0; 10])?;
     /// assert_eq!(Terminal::from_record(loaded.record())?, loaded);
-    /// assert_eq!(Terminal::from_record(&[0; 187]), Err(Error::Record));
+    /// assert_eq!(Terminal::from_record(&[0; 187]), Err(Error::BadRecord));
     /// # Ok::<(), Error>(())
     /// ```
     pub fn from_record(record: &[u8]) -> Result<Terminal, Error> {

@@ -124,41 +124,41 @@ fn clear_pin_blocks() {
 }
 
 #[test]
-fn enciphered_pin_blocks() {
+fn encrypted_pin_blocks() {
     for key in [b"PIN key.".to_vec(), b"double PIN key..".to_vec()] {
-        let block = pin_encipher(b"1234", &key).unwrap();
+        let block = pin_encrypt(&key, b"1234").unwrap();
         assert_eq!(Ok(block), encrypt(&key, &hex("041234FFFFFFFFFF")));
-        assert_eq!(pin_decipher(&block, &key), Ok(b"1234".to_vec()));
-        let block = pin_encipher_with_card(b"1234", CARD, &key).unwrap();
+        assert_eq!(pin_decrypt(&key, &block), Ok(b"1234".to_vec()));
+        let block = pin_encrypt_with_card(&key, b"1234", CARD).unwrap();
         assert_eq!(Ok(block), encrypt(&key, &hex("0412AC89ABCDEF67")));
         assert_eq!(
-            pin_decipher_with_card(&block, CARD, &key),
+            pin_decrypt_with_card(&key, &block, CARD),
             Ok(b"1234".to_vec())
         );
         let wrong = encrypt(&key, &[0; 8]).unwrap();
-        assert_eq!(pin_decipher(&wrong, &key), Err(Error::NoSuchPin));
+        assert_eq!(pin_decrypt(&key, &wrong), Err(Error::NoSuchPin));
         assert_eq!(
-            pin_decipher_with_card(&wrong, CARD, &key),
+            pin_decrypt_with_card(&key, &wrong, CARD),
             Err(Error::NoSuchPin)
         );
         assert_eq!(
-            pin_decipher_with_card(&wrong, b"421987654321098x", &key),
+            pin_decrypt_with_card(&key, &wrong, b"421987654321098x"),
             Err(Error::Character)
         );
-        assert_eq!(pin_encipher(b"12a4", &key), Err(Error::Character));
+        assert_eq!(pin_encrypt(&key, b"12a4"), Err(Error::Character));
         assert_eq!(
-            pin_encipher_with_card(b"12a4", CARD, &key),
+            pin_encrypt_with_card(&key, b"12a4", CARD),
             Err(Error::Character)
         );
     }
-    assert_eq!(pin_encipher(b"12a4", &[0; 9]), Err(Error::Size));
+    assert_eq!(pin_encrypt(&[0; 9], b"12a4"), Err(Error::Size));
     assert_eq!(
-        pin_encipher_with_card(b"12a4", CARD, &[0; 9]),
+        pin_encrypt_with_card(&[0; 9], b"12a4", CARD),
         Err(Error::Size)
     );
-    assert_eq!(pin_decipher(&[0; 8], &[0; 9]), Err(Error::Size));
+    assert_eq!(pin_decrypt(&[0; 9], &[0; 8]), Err(Error::Size));
     assert_eq!(
-        pin_decipher_with_card(&[0; 8], CARD, &[0; 9]),
+        pin_decrypt_with_card(&[0; 9], &[0; 8], CARD),
         Err(Error::Size)
     );
 }
@@ -205,9 +205,9 @@ fn host_keys() {
         assert_eq!(entry(&equal, &serial[..9]), Err(Error::Size));
         assert_eq!(entry(&equal, &[0; 10]), Err(Error::EqualHalves));
     }
-    assert_eq!(host_key(&derivation, &[0; 10]), Err(Error::Counter));
+    assert_eq!(host_key(&derivation, &[0; 10]), Err(Error::BadCounter));
     let eleven = hex("0123456789ABCDE007FF");
-    assert_eq!(host_key(&derivation, &eleven), Err(Error::Counter));
+    assert_eq!(host_key(&derivation, &eleven), Err(Error::BadCounter));
     assert!(initial_key(&derivation, &eleven).is_ok());
 }
 
@@ -225,20 +225,68 @@ fn buffers_keep_their_bytes() {
 }
 
 #[test]
-fn errors_have_numbers_and_meanings() {
+fn errors_have_the_librarys_meanings() {
     assert_eq!(Error::from_number(0), None);
-    assert_eq!(Error::from_number(14), None);
-    assert_eq!(Error::from_number(u32::MAX), None);
+    assert_eq!(meaning(0).as_deref(), Ok("done"));
+    let mut longest = 0;
     for number in 1..=13 {
         let error = Error::from_number(number).unwrap();
+        assert!(!matches!(error, Error::Unknown(_)));
         assert_eq!(error.number(), number);
+        assert_eq!(meaning(number).as_deref(), Ok(error.meaning()));
         assert_eq!(
             error.to_string(),
             format!("refused {number}: {}", error.meaning())
         );
+        longest = longest.max(error.meaning().len());
     }
+    assert_eq!(longest, MOST_MEANING);
     assert_eq!(
         Error::Exhausted.to_string(),
         "refused 12: terminal exhausted"
     );
+}
+
+#[test]
+fn unknown_numbers_are_errors_too() {
+    for number in [14, 255, 256, u32::MAX] {
+        let error = Error::from_number(number).unwrap();
+        assert_eq!(error, Error::Unknown(number));
+        assert_eq!(error.number(), number);
+        assert_eq!(
+            error.to_string(),
+            format!("refused {number}: a number without a meaning")
+        );
+        assert_eq!(meaning(number), Err(Error::Size));
+    }
+}
+
+#[test]
+fn meanings_in_buffers() {
+    for number in 0..14 {
+        let text = meaning(number).unwrap();
+        for room in 0..=MOST_MEANING + 1 {
+            let mut out = vec![0xA5; room];
+            let answer = lent::meaning(number, &mut out);
+            if room < text.len() {
+                assert_eq!(answer, Err(Error::ShortBuffer));
+                assert_eq!(out, vec![0xA5; room]);
+            } else {
+                assert_eq!(answer, Ok(text.len()));
+                assert_eq!(out[..text.len()], *text.as_bytes());
+                assert!(out[text.len()..].iter().all(|byte| *byte == 0xA5));
+            }
+        }
+    }
+    assert_eq!(lent::meaning(14, &mut []), Err(Error::Size));
+}
+
+#[test]
+fn the_crate_has_the_librarys_version() {
+    let part = |text: &str| text.parse::<u32>().unwrap();
+    let major = part(env!("CARGO_PKG_VERSION_MAJOR"));
+    let minor = part(env!("CARGO_PKG_VERSION_MINOR"));
+    let patch = part(env!("CARGO_PKG_VERSION_PATCH"));
+    assert_eq!(version(), 10_000 * major + 100 * minor + patch);
+    assert_eq!(version(), lent::version());
 }

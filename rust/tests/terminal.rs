@@ -73,7 +73,7 @@ fn records_are_judged() {
         damaged[place] ^= 1;
         assert_eq!(
             Terminal::from_record(&damaged),
-            Err(Error::Record),
+            Err(Error::BadRecord),
             "byte {place}"
         );
     }

@@ -1,8 +1,8 @@
 //! One input through both, and every byte of lent memory compared.
 
-use crate::entries::{Entry, Input};
+use crate::entries::{meaning_of, Entry, Input, MEANING};
 use crate::random::Random;
-use chizuregwo::Error;
+use chizuregwo::{Error, MOST_MEANING};
 use second::bytes::hex;
 use second::numbers::{lend, Answer};
 
@@ -55,10 +55,10 @@ impl Lent {
 }
 
 /// A number and a length of an answer, 0 and the length if done.
-pub fn numbers(answer: Result<usize, Error>) -> (u8, usize) {
+fn numbers(answer: Result<usize, Error>) -> (u32, usize) {
     match answer {
         Ok(length) => (0, length),
-        Err(error) => (error.number() as u8, 0),
+        Err(error) => (error.number(), 0),
     }
 }
 
@@ -69,8 +69,8 @@ pub fn same_answer(answer: Result<usize, Error>, expected: &Answer) -> Result<u8
         Err(number) => (*number, 0),
     };
     let got = numbers(answer);
-    if got == wanted {
-        return Ok(got.0);
+    if got == (u32::from(wanted.0), wanted.1) {
+        return Ok(wanted.0);
     }
     Err(format!(
         "number {} and length {} where the second implementation has {} and {}",
@@ -98,10 +98,38 @@ pub fn compare(random: &mut Random, entry: &Entry) -> Result<u8, String> {
     let input = (entry.input)(random);
     let unlimited = (entry.second)(&input);
     let room = room(random, &unlimited);
+    compare_call(random, entry, &input, unlimited, room)
+}
+
+/// The meanings of the numbers from 0 to 20 and of larger ones, each with every room up to one byte more than the longest
+/// meaning fills. Gives the numbers answered.
+pub fn room_by_room(random: &mut Random) -> Result<Vec<u8>, String> {
+    let larger = [255, 256, 256 + 13, 1 << 16, 1 << 31, u32::MAX - 1, u32::MAX];
+    let mut numbers = Vec::new();
+    for number in (0..=20).chain(larger) {
+        let input = meaning_of(number);
+        let unlimited = (MEANING.second)(&input);
+        for room in 0..=MOST_MEANING + 1 {
+            let expected = unlimited.clone();
+            numbers.push(compare_call(random, &MEANING, &input, expected, room)?);
+        }
+    }
+    Ok(numbers)
+}
+
+/// One call of the library, every byte of lent memory compared with what the second implementation answers if the room is
+/// unlimited; gives the number.
+fn compare_call(
+    random: &mut Random,
+    entry: &Entry,
+    input: &Input,
+    unlimited: Answer,
+    room: usize,
+) -> Result<u8, String> {
     let expected = unlimited.and_then(|value| lend(value, room));
     let mut lent = Lent::new(random, room);
     let parts = input.parts.clone();
-    let answer = (entry.library)(&input, lent.bytes());
+    let answer = (entry.library)(input, lent.bytes());
     let value = expected.as_deref().unwrap_or(&[]);
     same_answer(answer, &expected)
         .and_then(|number| lent.holds(value).map(|_| number))
@@ -112,7 +140,7 @@ pub fn compare(random: &mut Random, entry: &Entry) -> Result<u8, String> {
                 Err("a part lent to be read was changed".to_string())
             }
         })
-        .map_err(|difference| format!("{}: {difference}", shown(&input, room)))
+        .map_err(|difference| format!("{}: {difference}", shown(input, room)))
 }
 
 /// An input in hexadecimal.

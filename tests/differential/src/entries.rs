@@ -4,7 +4,7 @@ use crate::messages::{message, text};
 use crate::random::Random;
 use chizuregwo::{lent, Error};
 use second::entries::{decrypt, encrypt, terminal_load};
-use second::numbers::Answer;
+use second::numbers::{meaning, Answer};
 use second::{card, cleaning, dukpt, key_entry, mac, message as messages, pin};
 
 /// Room that no result fills.
@@ -125,21 +125,23 @@ fn read_with_card_input(random: &mut Random) -> Input {
     parts(vec![resized(random, block), card])
 }
 
-/// A clear block enciphered under a key, if that has a key's size.
-fn enciphered(random: &mut Random, key: &[u8], block: [u8; 8]) -> Vec<u8> {
+/// A clear block encrypted under a key, if that has a key's size.
+fn encrypted(random: &mut Random, key: &[u8], block: [u8; 8]) -> Vec<u8> {
     let block = encrypt(key, &block).map_or(block, |bytes| bytes.try_into().expect("8 bytes"));
     resized(random, block)
 }
 
-fn decipher_input(random: &mut Random) -> Input {
+fn decrypt_input(random: &mut Random) -> Input {
     let (key, block) = (key(random), clear_block(random, None));
-    parts(vec![enciphered(random, &key, block), key])
+    let block = encrypted(random, &key, block);
+    parts(vec![key, block])
 }
 
-fn decipher_with_card_input(random: &mut Random) -> Input {
+fn decrypt_with_card_input(random: &mut Random) -> Input {
     let (key, card) = (key(random), card_number(random));
     let block = clear_block(random, Some(&card));
-    parts(vec![enciphered(random, &key, block), card, key])
+    let block = encrypted(random, &key, block);
+    parts(vec![key, block, card])
 }
 
 /// A card sequence: 0 to 99, and now and then above.
@@ -210,8 +212,36 @@ fn wanted(input: &Input) -> usize {
     input.number as usize
 }
 
+/// The number whose meaning is asked for.
+fn asked_number(input: &Input) -> u32 {
+    u32::try_from(input.number).expect("a number of 32 bits")
+}
+
+/// The meaning of a number, mostly of one from 0 to 20.
+pub const MEANING: Entry = Entry {
+    name: "meaning",
+    share: 10,
+    input: |random| {
+        meaning_of(match random.below(4) {
+            0 => random.next() as u32 >> random.below(32),
+            _ => random.below(21) as u32,
+        })
+    },
+    library: |i, out| lent::meaning(asked_number(i), out),
+    second: |i| meaning(asked_number(i)),
+};
+
+/// The input that asks for the meaning of a number.
+pub fn meaning_of(number: u32) -> Input {
+    Input {
+        parts: Vec::new(),
+        number: u64::from(number),
+    }
+}
+
 /// Every entry that writes one buffer. The shares make a thousand with those of the terminal's next key.
-pub const ENTRIES: [Entry; 23] = [
+pub const ENTRIES: [Entry; 24] = [
+    MEANING,
     Entry {
         name: "encrypt",
         share: 40,
@@ -235,7 +265,7 @@ pub const ENTRIES: [Entry; 23] = [
     },
     Entry {
         name: "clean",
-        share: 100,
+        share: 90,
         input: |random| parts(vec![text(random, 200)]),
         library: |i, out| lent::clean(&i.parts[0], out),
         second: |i| cleaning::clean(&i.parts[0], ENOUGH),
@@ -290,32 +320,32 @@ pub const ENTRIES: [Entry; 23] = [
         second: |i| pin::read_with_card(&i.parts[0], &i.parts[1], ENOUGH),
     },
     Entry {
-        name: "pin_encipher",
+        name: "pin_encrypt",
         share: 30,
-        input: |random| parts(vec![pin_digits(random), key(random)]),
-        library: |i, out| lent::pin_encipher(&i.parts[0], &i.parts[1], out),
-        second: |i| pin::encipher(&i.parts[0], &i.parts[1]),
+        input: |random| parts(vec![key(random), pin_digits(random)]),
+        library: |i, out| lent::pin_encrypt(&i.parts[0], &i.parts[1], out),
+        second: |i| pin::encrypt(&i.parts[0], &i.parts[1]),
     },
     Entry {
-        name: "pin_encipher_with_card",
+        name: "pin_encrypt_with_card",
         share: 30,
-        input: |random| parts(vec![pin_digits(random), card_number(random), key(random)]),
-        library: |i, out| lent::pin_encipher_with_card(&i.parts[0], &i.parts[1], &i.parts[2], out),
-        second: |i| pin::encipher_with_card(&i.parts[0], &i.parts[1], &i.parts[2]),
+        input: |random| parts(vec![key(random), pin_digits(random), card_number(random)]),
+        library: |i, out| lent::pin_encrypt_with_card(&i.parts[0], &i.parts[1], &i.parts[2], out),
+        second: |i| pin::encrypt_with_card(&i.parts[0], &i.parts[1], &i.parts[2]),
     },
     Entry {
-        name: "pin_decipher",
+        name: "pin_decrypt",
         share: 30,
-        input: decipher_input,
-        library: |i, out| lent::pin_decipher(&i.parts[0], &i.parts[1], out),
-        second: |i| pin::decipher(&i.parts[0], &i.parts[1], ENOUGH),
+        input: decrypt_input,
+        library: |i, out| lent::pin_decrypt(&i.parts[0], &i.parts[1], out),
+        second: |i| pin::decrypt(&i.parts[0], &i.parts[1], ENOUGH),
     },
     Entry {
-        name: "pin_decipher_with_card",
+        name: "pin_decrypt_with_card",
         share: 30,
-        input: decipher_with_card_input,
-        library: |i, out| lent::pin_decipher_with_card(&i.parts[0], &i.parts[1], &i.parts[2], out),
-        second: |i| pin::decipher_with_card(&i.parts[0], &i.parts[1], &i.parts[2], ENOUGH),
+        input: decrypt_with_card_input,
+        library: |i, out| lent::pin_decrypt_with_card(&i.parts[0], &i.parts[1], &i.parts[2], out),
+        second: |i| pin::decrypt_with_card(&i.parts[0], &i.parts[1], &i.parts[2], ENOUGH),
     },
     Entry {
         name: "derivation_data",

@@ -1,5 +1,5 @@
 //! The refusals that chizuregwo.h lists with each entry: the last sentence of the comment before its declaration, as in
-//! `Refusals: 6 (key, block), 13.`, the details in brackets.
+//! `Refusals: 6 (key, block), 13.`, the details in brackets. The version alone answers no refusal.
 
 /// The header's path.
 const PATH: &str = concat!(env!("CARGO_MANIFEST_DIR"), "/../../include/chizuregwo.h");
@@ -70,8 +70,16 @@ fn listed(header: &str, place: usize) -> Result<Listed, String> {
     }
 }
 
-/// Every entry of a header: each name that starts with `czg_` and has a bracket after it.
+/// The declaration of the version, which is a number alone.
+const VERSION: &str = "\nuint32_t czg_version(void);\n";
+
+/// Every entry of a header that answers refusals: each name that starts with `czg_` and has a bracket after it, but for
+/// the version.
 fn parsed(header: &str) -> Result<Vec<Listed>, String> {
+    let (before, after) = header
+        .split_once(VERSION)
+        .ok_or(format!("{PATH}: no line `{}`", VERSION.trim()))?;
+    let header = &[before, after].join("\n");
     let is_called = |place: &usize| {
         let text = &header[*place..];
         text[name(text).len()..].starts_with('(')

@@ -1,11 +1,12 @@
 //! differential [COUNT [KEYS [SEED]]]: the library's entries against the second implementation.
 //!
 //! COUNT seeded inputs (200,000 if not given) over every entry, whole and damaged, long and short, with buffers of any
-//! room; then records damaged byte by byte; then one terminal drained of KEYS keys (all 1,048,575 if not given). Prints a
-//! line for each kind and how often each number was answered. Ends at the first difference with its input, status 1.
+//! room; then the meanings with every room; then records damaged byte by byte; then one terminal drained of KEYS keys
+//! (all 1,048,575 if not given). Prints a line for each kind and how often each number was answered. Ends at the first
+//! difference with its input, status 1.
 //!
 //! Each entry must have answered every refusal that chizuregwo.h lists with it, and no other, and every entry of the
-//! header must have been called.
+//! header must have been called, but for czg_version, which answers no refusal.
 
 #![forbid(unsafe_code)]
 
@@ -41,6 +42,13 @@ struct Seen([usize; 14]);
 type All = BTreeMap<&'static str, Seen>;
 
 impl Seen {
+    /// The counts of some numbers.
+    fn of(numbers: Vec<u8>) -> Seen {
+        let mut seen = Seen::default();
+        numbers.into_iter().for_each(|number| seen.count(number));
+        seen
+    }
+
     /// Counts a number.
     fn count(&mut self, number: u8) {
         self.0[number as usize] += 1;
@@ -130,7 +138,7 @@ fn asked() -> Result<Asked, String> {
     Ok(asked)
 }
 
-/// Every entry on seeded inputs, then records damaged byte by byte.
+/// Every entry on seeded inputs, then the meanings room by room and records damaged byte by byte.
 fn inputs(random: &mut Random, count: usize, all: &mut All) -> Result<(), String> {
     for entry in &ENTRIES {
         run(entry.name, count * entry.share / 1000, all, || {
@@ -141,13 +149,13 @@ fn inputs(random: &mut Random, count: usize, all: &mut All) -> Result<(), String
     run("terminal_next_key", next_keys, all, || {
         terminals::compare(random)
     })?;
-    let mut seen = Seen::default();
+    let meanings = compare::room_by_room(random)?;
+    Seen::of(meanings).print("meanings room by room", "meaning", all);
+    let mut records = Vec::new();
     for _ in 0..1 + count / 20_000 {
-        for number in terminals::byte_by_byte(random)? {
-            seen.count(number);
-        }
+        records.extend(terminals::byte_by_byte(random)?);
     }
-    seen.print("records byte by byte", "terminal_next_key", all);
+    Seen::of(records).print("records byte by byte", "terminal_next_key", all);
     Ok(())
 }
 

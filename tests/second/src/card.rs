@@ -40,7 +40,7 @@ pub fn card_key(master: &[u8], card: &[u8], sequence: u32) -> Answer {
     Ok(two_halves(master, y, turned(y)))
 }
 
-/// The two halves of a session key before enciphering: the counter with six
+/// The two halves of a session key before encryption: the counter with six
 /// zero bytes before it, then the same with the counter's bits turned.
 pub fn session_halves(counter: [u8; 2]) -> [[u8; 8]; 2] {
     let [high, low] = counter;

@@ -100,7 +100,7 @@ fn halves(keys: &[Bits], block: &[u8; 8]) -> Vec<(Bits, Bits)> {
     halves
 }
 
-/// Enciphering computation with the keys in the order given; the preoutput
+/// Computation with the keys in the order given; the preoutput
 /// block is R16 L16.
 fn computed(keys: &[Bits], block: &[u8; 8]) -> [u8; 8] {
     let halves = halves(keys, block);
@@ -108,12 +108,12 @@ fn computed(keys: &[Bits], block: &[u8; 8]) -> [u8; 8] {
     block_of(&selected(&IP_INVERSE, &joined(r16, l16)))
 }
 
-/// DES enciphering of a block under a key.
+/// DES encryption of a block under a key.
 pub fn encrypt(key: &[u8; 8], block: &[u8; 8]) -> [u8; 8] {
     computed(&key_schedule(key), block)
 }
 
-/// DES deciphering: the same computation, K16 first and K1 last.
+/// DES decryption: the same computation, K16 first and K1 last.
 pub fn decrypt(key: &[u8; 8], block: &[u8; 8]) -> [u8; 8] {
     let mut keys = key_schedule(key);
     keys.reverse();

@@ -4,7 +4,7 @@
 use crate::bytes::{array, left, right, xor};
 use crate::des::{encrypt, triple_encrypt};
 use crate::numbers::{
-    require, Answer, EXHAUSTED, HOST_COUNTER, ROOM, SAME_HALVES, SIZE, TERMINAL_STATE,
+    require, Answer, BAD_COUNTER, BAD_RECORD, EQUAL_HALVES, EXHAUSTED, SHORT_BUFFER, SIZE,
 };
 
 /// Number of registers and of counter bits.
@@ -89,7 +89,7 @@ fn data(serial: &[u8; 10], counter: u32) -> [u8; 8] {
     array(&with_counter(serial, counter)[2..])
 }
 
-/// One-way step: data exclusive-or key, enciphered under the key, exclusive-or
+/// One-way step: data exclusive-or key, encrypted under the key, exclusive-or
 /// key again (002, Tb, Tc and the new Ka). All bits of the key take part.
 fn one_way(data: [u8; 8], key: [u8; 8]) -> [u8; 8] {
     xor(encrypt(&key, &xor(data, key)), key)
@@ -119,7 +119,7 @@ fn host_inputs(derivation: &[u8], serial: &[u8]) -> Result<([u8; 16], [u8; 10]),
     require(derivation.len() == 16, SIZE)?;
     require(serial.len() == 10, SIZE)?;
     let derivation = array(derivation);
-    require(left(&derivation) != right(&derivation), SAME_HALVES)?;
+    require(left(&derivation) != right(&derivation), EQUAL_HALVES)?;
     Ok((derivation, array(serial)))
 }
 
@@ -139,7 +139,7 @@ pub fn initial_key(derivation: &[u8], serial: &[u8]) -> Answer {
 pub fn host_key(derivation: &[u8], serial: &[u8]) -> Answer {
     let (derivation, serial) = host_inputs(derivation, serial)?;
     let counter = counter_of(&serial);
-    require(permitted(counter), HOST_COUNTER)?;
+    require(permitted(counter), BAD_COUNTER)?;
     let initial = initial_of(&derivation, &serial);
     Ok(given_out(register_key(initial, &serial, counter)).to_vec())
 }
@@ -235,9 +235,9 @@ fn following(record: &Record) -> Record {
 /// The terminal's next key, from the register of the counter's lowest one bit:
 /// 11, 12, 13.
 pub fn terminal_next_key(record: &Record, room: usize) -> Result<NextKey, u8> {
-    require(hangs_together(record), TERMINAL_STATE)?;
+    require(hangs_together(record), BAD_RECORD)?;
     require(!record.exhausted, EXHAUSTED)?;
-    require(room >= 8, ROOM)?;
+    require(room >= 8, SHORT_BUFFER)?;
     Ok(NextKey {
         key: given_out(record.keys[lowest(record.counter)]),
         serial: with_counter(&record.serial, record.counter),
@@ -258,7 +258,7 @@ pub fn to_bytes(record: &Record) -> Vec<u8> {
 /// The record of a byte form: another length is 6, no valid record is 11.
 pub fn from_bytes(bytes: &[u8]) -> Result<Record, u8> {
     require(bytes.len() == RECORD_BYTES, SIZE)?;
-    require(bytes[186] <= 1, TERMINAL_STATE)?;
+    require(bytes[186] <= 1, BAD_RECORD)?;
     let record = Record {
         keys: std::array::from_fn(|b| array(&bytes[8 * b..8 * b + 8])),
         filled: u32::from_be_bytes(array(&bytes[168..172])),
@@ -266,6 +266,6 @@ pub fn from_bytes(bytes: &[u8]) -> Result<Record, u8> {
         counter: u32::from_be_bytes(array(&bytes[182..186])),
         exhausted: bytes[186] == 1,
     };
-    require(hangs_together(&record), TERMINAL_STATE)?;
+    require(hangs_together(&record), BAD_RECORD)?;
     Ok(record)
 }

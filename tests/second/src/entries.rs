@@ -5,7 +5,7 @@
 use crate::bytes::array;
 use crate::des;
 use crate::dukpt::{self, from_bytes, to_bytes, NextKey};
-use crate::numbers::{require, Answer, ROOM, SIZE};
+use crate::numbers::{require, Answer, SHORT_BUFFER, SIZE};
 
 /// DES or triple DES by the key's size: 6.
 fn cipher(
@@ -24,12 +24,12 @@ fn cipher(
     Ok(result.to_vec())
 }
 
-/// A block enciphered under a key of 8 or 16 bytes: 6.
+/// A block encrypted under a key of 8 or 16 bytes: 6.
 pub fn encrypt(key: &[u8], block: &[u8]) -> Answer {
     cipher(key, block, des::encrypt, des::triple_encrypt)
 }
 
-/// A block deciphered under a key of 8 or 16 bytes: 6.
+/// A block decrypted under a key of 8 or 16 bytes: 6.
 pub fn decrypt(key: &[u8], block: &[u8]) -> Answer {
     cipher(key, block, des::decrypt, des::triple_decrypt)
 }
@@ -48,6 +48,6 @@ pub fn terminal_next_key(
 ) -> Result<NextKey, u8> {
     let record = from_bytes(record)?;
     let next = dukpt::terminal_next_key(&record, key_room)?;
-    require(serial_room >= next.serial.len(), ROOM)?;
+    require(serial_room >= next.serial.len(), SHORT_BUFFER)?;
     Ok(next)
 }

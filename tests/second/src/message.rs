@@ -4,7 +4,7 @@
 use crate::bytes::all_digits;
 use crate::cleaning::cleaned;
 use crate::numbers::{
-    lend, require, Answer, CUT_SHORT, FIELD_BODY, FIELD_NUMBER, MESSAGE_TYPE, SIZE,
+    lend, require, Answer, CUT_SHORT, FIELD_FORM, FIELD_ORDER, MESSAGE_TYPE, SIZE,
 };
 
 /// Longest message in bytes.
@@ -91,8 +91,8 @@ fn records(message: &[u8]) -> Result<Vec<Record>, u8> {
         let (record, following) = first_record(rest).ok_or(CUT_SHORT)?;
         let (field, body) = &record;
         let before = records.last().map(|record| record.0);
-        require(number_is_right(*field, before), FIELD_NUMBER)?;
-        require(body_is_right(*field, body), FIELD_BODY)?;
+        require(number_is_right(*field, before), FIELD_ORDER)?;
+        require(body_is_right(*field, body), FIELD_FORM)?;
         require(*field != 0 || type_is_right(body), MESSAGE_TYPE)?;
         records.push(record);
         rest = following;

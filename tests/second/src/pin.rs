@@ -5,8 +5,8 @@
 //! it, and then as that PIN.
 
 use crate::bytes::{all_digits, array, digit_values, pack, xor};
-use crate::des::{decrypt, encrypt, triple_decrypt, triple_encrypt};
-use crate::numbers::{lend, require, Answer, CHARACTER, NO_PIN, SIZE};
+use crate::des;
+use crate::numbers::{lend, require, Answer, CHARACTER, NO_SUCH_PIN, SIZE};
 
 /// A card number, or none.
 type Card<'a> = Option<&'a [u8]>;
@@ -89,28 +89,28 @@ fn read_any(block: &[u8], card: Card, room: usize) -> Answer {
     require(block.len() == 8, SIZE)?;
     require(card_size(card), SIZE)?;
     require(card.is_none_or(all_digits), CHARACTER)?;
-    let pin = pin_of(array(block), card).ok_or(NO_PIN)?;
+    let pin = pin_of(array(block), card).ok_or(NO_SUCH_PIN)?;
     lend(pin, room)
 }
 
 /// DES under an 8-byte PIN key, triple DES under a 16-byte one: 6, 7.
-fn encipher_any(pin: &[u8], card: Card, key: &[u8]) -> Answer {
+fn encrypt_any(key: &[u8], pin: &[u8], card: Card) -> Answer {
     require(key_size(key), SIZE)?;
     let block = make_any(pin, card)?;
-    let enciphered = match key.len() {
-        8 => encrypt(&array(key), &block),
-        _ => triple_encrypt(&array(key), &block),
+    let encrypted = match key.len() {
+        8 => des::encrypt(&array(key), &block),
+        _ => des::triple_encrypt(&array(key), &block),
     };
-    Ok(enciphered.to_vec())
+    Ok(encrypted.to_vec())
 }
 
 /// Decrypted first, then read by the same rules: 6, 7, 8, 13.
-fn decipher_any(block: &[u8], card: Card, key: &[u8], room: usize) -> Answer {
-    require(block.len() == 8, SIZE)?;
+fn decrypt_any(key: &[u8], block: &[u8], card: Card, room: usize) -> Answer {
     require(key_size(key), SIZE)?;
+    require(block.len() == 8, SIZE)?;
     let clear = match key.len() {
-        8 => decrypt(&array(key), &array(block)),
-        _ => triple_decrypt(&array(key), &array(block)),
+        8 => des::decrypt(&array(key), &array(block)),
+        _ => des::triple_decrypt(&array(key), &array(block)),
     };
     read_any(&clear, card, room)
 }
@@ -135,22 +135,22 @@ pub fn read_with_card(block: &[u8], card: &[u8], room: usize) -> Answer {
     read_any(block, Some(card), room)
 }
 
-/// Enciphered PIN block without card number: 6, 7.
-pub fn encipher(pin: &[u8], key: &[u8]) -> Answer {
-    encipher_any(pin, None, key)
+/// Encrypted PIN block without card number: 6, 7.
+pub fn encrypt(key: &[u8], pin: &[u8]) -> Answer {
+    encrypt_any(key, pin, None)
 }
 
-/// Enciphered PIN block with card number: 6, 7.
-pub fn encipher_with_card(pin: &[u8], card: &[u8], key: &[u8]) -> Answer {
-    encipher_any(pin, Some(card), key)
+/// Encrypted PIN block with card number: 6, 7.
+pub fn encrypt_with_card(key: &[u8], pin: &[u8], card: &[u8]) -> Answer {
+    encrypt_any(key, pin, Some(card))
 }
 
-/// The PIN of an enciphered block without card number: 6, 8, 13.
-pub fn decipher(block: &[u8], key: &[u8], room: usize) -> Answer {
-    decipher_any(block, None, key, room)
+/// The PIN of an encrypted block without card number: 6, 8, 13.
+pub fn decrypt(key: &[u8], block: &[u8], room: usize) -> Answer {
+    decrypt_any(key, block, None, room)
 }
 
-/// The PIN of an enciphered block with card number: 6, 7, 8, 13.
-pub fn decipher_with_card(block: &[u8], card: &[u8], key: &[u8], room: usize) -> Answer {
-    decipher_any(block, Some(card), key, room)
+/// The PIN of an encrypted block with card number: 6, 7, 8, 13.
+pub fn decrypt_with_card(key: &[u8], block: &[u8], card: &[u8], room: usize) -> Answer {
+    decrypt_any(key, block, Some(card), room)
 }

@@ -4,7 +4,7 @@ use crate::dukpt::{to_bytes, NextKey};
 use crate::lines::{answer_line, bytes_value, requests, text_value};
 use crate::lines::{Answered, Inputs, Request, Rooms};
 use crate::numbers::{lend, Answer};
-use crate::{card, cleaning, dukpt, entries, key_entry, mac, message, pin};
+use crate::{card, cleaning, dukpt, entries, key_entry, mac, message, numbers, pin};
 use std::io::{BufRead, Write};
 
 /// Reads the inputs of a request and computes its values, with the rooms lent.
@@ -34,7 +34,9 @@ fn next_key(answer: Result<NextKey, u8>) -> Result<Answered, String> {
 
 /// Every request, by its name.
 #[rustfmt::skip]
-const REQUESTS: [(&str, Compute); 24] = [
+const REQUESTS: [(&str, Compute); 25] = [
+    ("meaning", |i, r| text(numbers::meaning(i.number()?), r)),
+
     ("encrypt", |i, r| bytes(entries::encrypt(&i.bytes()?, &i.bytes()?), r)),
     ("decrypt", |i, r| bytes(entries::decrypt(&i.bytes()?, &i.bytes()?), r)),
 
@@ -51,13 +53,13 @@ const REQUESTS: [(&str, Compute); 24] = [
     ("pin-make-with-card", |i, r| bytes(pin::make_with_card(&i.characters()?, &i.characters()?), r)),
     ("pin-read", |i, r| text(pin::read(&i.bytes()?, r.result), r)),
     ("pin-read-with-card", |i, r| text(pin::read_with_card(&i.bytes()?, &i.characters()?, r.result), r)),
-    ("pin-encipher", |i, r| bytes(pin::encipher(&i.characters()?, &i.bytes()?), r)),
-    ("pin-encipher-with-card", |i, r| {
-        bytes(pin::encipher_with_card(&i.characters()?, &i.characters()?, &i.bytes()?), r)
+    ("pin-encrypt", |i, r| bytes(pin::encrypt(&i.bytes()?, &i.characters()?), r)),
+    ("pin-encrypt-with-card", |i, r| {
+        bytes(pin::encrypt_with_card(&i.bytes()?, &i.characters()?, &i.characters()?), r)
     }),
-    ("pin-decipher", |i, r| text(pin::decipher(&i.bytes()?, &i.bytes()?, r.result), r)),
-    ("pin-decipher-with-card", |i, r| {
-        text(pin::decipher_with_card(&i.bytes()?, &i.characters()?, &i.bytes()?, r.result), r)
+    ("pin-decrypt", |i, r| text(pin::decrypt(&i.bytes()?, &i.bytes()?, r.result), r)),
+    ("pin-decrypt-with-card", |i, r| {
+        text(pin::decrypt_with_card(&i.bytes()?, &i.bytes()?, &i.characters()?, r.result), r)
     }),
 
     ("derivation-data", |i, r| bytes(card::derivation_data(&i.characters()?, i.number()?), r)),

@@ -11,6 +11,11 @@ use std::process::{Command, Output, Stdio};
 
 /// Requests with their answers, one or more for every name but the terminal's.
 const RIGHT: &str = "\
+meaning/done 0 = done done
+meaning@35/last 13 = done lent buffer shorter than the result
+meaning@34/room 13 = refused 13
+meaning@0/none 14 = refused 6
+meaning/largest 4294967295 = refused 6
 encrypt/worked 133457799BBCDFF1 0123456789ABCDEF = done 85E813540F0AB405
 encrypt/small-letters 133457799bbcdff1 0123456789abcdef = done 85E813540F0AB405
 encrypt/arpc D4102725E6E5AD329E55AAB50BF23DA9 6D306C91005E7CC2 = done 21415243527CE78F
@@ -55,12 +60,14 @@ pin-read/f 041234FFFFFFFFFF = done 1234
 pin-read/i 03123FFFFFFFFFFF = refused 8
 pin-read-with-card@4/h 0412AC89ABCDEF67 4219876543210987 = done 1234
 pin-read-with-card@3/h 0412AC89ABCDEF67 4219876543210987 = refused 13
-pin-encipher/key 1234 - = refused 6
-pin-encipher/done 1234 0123456789ABCDEF = done 286344C32894AFB6
-pin-encipher-with-card/card 1234 - 133457799BBCDFF1 = refused 6
-pin-decipher/none 0000000000000000 133457799BBCDFF1 = refused 8
-pin-decipher/done 286344C32894AFB6 0123456789ABCDEF = done 1234
-pin-decipher-with-card/card 0000000000000000 - 133457799BBCDFF1 = refused 6
+pin-encrypt/key - 1234 = refused 6
+pin-encrypt/done 0123456789ABCDEF 1234 = done 286344C32894AFB6
+pin-encrypt-with-card/card 133457799BBCDFF1 1234 - = refused 6
+pin-encrypt-with-card/done 0123456789ABCDEF 1234 4219876543210987 = done 864C0D7C2D6C8B94
+pin-decrypt/none 133457799BBCDFF1 0000000000000000 = refused 8
+pin-decrypt/done 0123456789ABCDEF 286344C32894AFB6 = done 1234
+pin-decrypt-with-card/card 133457799BBCDFF1 0000000000000000 - = refused 6
+pin-decrypt-with-card/done 0123456789ABCDEF 864C0D7C2D6C8B94 4219876543210987 = done 1234
 derivation-data/l 6228000100001 1 = done 0622800010000101
 derivation-data/sequence 6228000100001 100 = refused 6
 card-key/004 F0C34A8124CEE0A91A0B034AA97D6EAC 6228000100001 1 = done 014D996FCC8F49157DC8B49E3BCDFD99
@@ -177,6 +184,10 @@ fn wrong_lines() {
         "key-entry/x 8 ",
         "key-entry/x 18446744073709551616 0123456789ABCDEF",
         "pin-make/x 1234 ",
+        "meaning",
+        "meaning/x -",
+        "meaning/x 0 0",
+        "meaning/x 4294967296",
         "pin-make/x 12 34",
         "derivation-data/x 6228000100001 4294967296",
         "derivation-data/x 6228000100001 -",

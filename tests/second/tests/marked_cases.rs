@@ -181,16 +181,16 @@ fn every_pin_made_is_read() {
 }
 
 #[test]
-fn enciphered_pins_are_read_again() {
+fn encrypted_pins_are_read_again() {
     let card = b"4219876543210987";
     for key in [KEY.to_vec(), hex("0123456789ABCDEFFEDCBA9876543210")] {
-        let block = pin::encipher(b"12345", &key).unwrap();
-        assert_eq!(pin::decipher(&block, &key, 5), Ok(b"12345".to_vec()));
-        let block = pin::encipher_with_card(b"12345", card, &key).unwrap();
-        let read = pin::decipher_with_card(&block, card, &key, 5);
+        let block = pin::encrypt(&key, b"12345").unwrap();
+        assert_eq!(pin::decrypt(&key, &block, 5), Ok(b"12345".to_vec()));
+        let block = pin::encrypt_with_card(&key, b"12345", card).unwrap();
+        let read = pin::decrypt_with_card(&key, &block, card, 5);
         assert_eq!(read, Ok(b"12345".to_vec()));
     }
-    let block = pin::encipher(b"1234", KEY).unwrap();
+    let block = pin::encrypt(KEY, b"1234").unwrap();
     let clear = sized("041234FFFFFFFFFF");
     assert_eq!(block, des::encrypt(&sized("133457799BBCDFF1"), &clear));
 }

@@ -7,11 +7,22 @@ use second::cleaning::clean;
 use second::key_entry::key_entry;
 use second::mac::{message_mac, text_mac};
 use second::message::message_text;
+use second::numbers::meaning;
 use second::{card, dukpt, pin};
 
 const KEY: &[u8] = &[0x11; 8];
 const DOUBLE: &[u8] = b"0123456789abcdef";
 const CARD: &[u8] = b"4219876543210987";
+
+#[test]
+fn meaning_6() {
+    assert_eq!(meaning(0), Ok(b"done".to_vec()));
+    let last = b"lent buffer shorter than the result";
+    assert_eq!(meaning(13), Ok(last.to_vec()));
+    for number in [14, 15, 255, 256, 1 << 16, u32::MAX] {
+        assert_eq!(meaning(number), Err(6));
+    }
+}
 
 #[test]
 fn key_entry_6_7_13() {
@@ -201,19 +212,19 @@ fn pin_keys_are_8_or_16_bytes() {
     for length in 0..=33 {
         let key = vec![0x11; length];
         let number = if length == 8 || length == 16 { 7 } else { 6 };
-        assert_eq!(pin::encipher(b"123x", &key), Err(number));
-        assert_eq!(pin::encipher_with_card(b"123x", CARD, &key), Err(number));
-        let refused = pin::decipher_with_card(&[0; 8], b"421987654321098x", &key, 0);
+        assert_eq!(pin::encrypt(&key, b"123x"), Err(number));
+        assert_eq!(pin::encrypt_with_card(&key, b"123x", CARD), Err(number));
+        let refused = pin::decrypt_with_card(&key, &[0; 8], b"421987654321098x", 0);
         assert_eq!(refused, Err(number));
     }
-    assert_eq!(pin::encipher(b"12x", KEY), Err(6));
-    assert_eq!(pin::encipher_with_card(b"123x", b"1", KEY), Err(6));
-    assert_eq!(pin::decipher(&[0; 7], KEY, 12), Err(6));
-    assert_eq!(pin::decipher(&[0; 8], &[0; 7], 12), Err(6));
-    assert_eq!(pin::decipher_with_card(&[0; 8], b"1", KEY, 12), Err(6));
-    let block = pin::encipher(b"1234", KEY).unwrap();
-    assert_eq!(pin::decipher(&block, KEY, 3), Err(13));
-    assert_eq!(pin::decipher(&block, DOUBLE, 3), Err(8));
+    assert_eq!(pin::encrypt(KEY, b"12x"), Err(6));
+    assert_eq!(pin::encrypt_with_card(KEY, b"123x", b"1"), Err(6));
+    assert_eq!(pin::decrypt(KEY, &[0; 7], 12), Err(6));
+    assert_eq!(pin::decrypt(&[0; 7], &[0; 8], 12), Err(6));
+    assert_eq!(pin::decrypt_with_card(KEY, &[0; 8], b"1", 12), Err(6));
+    let block = pin::encrypt(KEY, b"1234").unwrap();
+    assert_eq!(pin::decrypt(KEY, &block, 3), Err(13));
+    assert_eq!(pin::decrypt(DOUBLE, &block, 3), Err(8));
 }
 
 #[test]
