@@ -15,13 +15,15 @@ call-with-room-requires c κs =
 
 array-share-prefix-value : tie.Need-array-share-prefix-value
 array-share-prefix-value c =
-    let s = c .before .before .before .before .before .before .before .before .before in
-    omega (arith, at-most (s .args .room) (c .before .before .before .before .before .before .buffer .result) (written-within (c .before .before .before .before .call-with-room .ensures)), s .pre .1 .1 .0)
+    let r = c .before .before .before in
+    let s = r .before .before .before .before .before in
+    omega (arith, at-most (s .args .room) (r .before .before .buffer .result) (written-within (r .call-with-room .ensures)), s .pre .1 .1 .0)
 
 slice-aggregate-put-answer : tie.Need-slice-aggregate-put-answer
 slice-aggregate-put-answer c =
-    let s = c .before .before .before .before .before .before .before .before .before .before in
-    sym (length-take-le _ _ (omega (arith, at-most (s .args .room) (c .before .before .before .before .before .before .before .buffer .result) (written-within (c .before .before .before .before .before .call-with-room .ensures)), s .pre .1 .1 .0)))
+    let r = c .before .before .before .before in
+    let s = r .before .before .before .before .before in
+    sym (length-take-le _ _ (omega (arith, at-most (s .args .room) (r .before .before .buffer .result) (written-within (r .call-with-room .ensures)), s .pre .1 .1 .0)))
 
 pub answer-one-spec : {M : Type 1} → statement M
 answer-one-spec =
