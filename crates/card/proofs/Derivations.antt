@@ -1,37 +1,32 @@
 -- Laws on Y: its digits and its number.
 use borrow.Author.Tests.{leb-true, leb-false, lt-ltb}
 use mathlib.Core.Path.{_≡_, refl, sym, ap, _∙_}
-use mathlib.Core.Bool.{Bool, true}
+use mathlib.Core.Bool.{true}
 use mathlib.Core.List.{List, [], _∷_, _++_, map}
 use Prim.Native.Nat.{ℕ, zero, suc, _+_, _-_, _*_, _/_, _%_, _^_, _<_, _≤_}
 use native.Mathlib.Nat.{zero-add, zero-mul, mod-eq-of-lt}
 use native.Mathlib.Omega.{arith}
 use lib.Arith.{digits-mod}
-use lib.Dec.{leb, ltb, lit<}
+use lib.Dec.{leb, lit<}
 use lib.ListN.{length, take, drop, replicate, length-append, length-map, length-replicate, length-drop, take-append-drop}
 use lib.Seq.{length-take-le}
 use Rattle.lent.proofs.Parts.{from-append, from-zeros}
-use Rattle.lent.proofs.Lists.{all-map, all-append, all-replicate, all-drop, elements-below}
+use Rattle.lent.proofs.Lists.{all-append, all-replicate, all-drop, elements-below, halfByte, values-half-bytes}
 use Rattle.lent.specs.Choice.{all}
 use Rattle.lent.specs.Characters.{digit, digitValue}
 use Rattle.lent.specs.Words.{fromBase, toBase}
 use Rattle.lent.proofs.Bases.{Digits, from-lt}
-use Rattle.lent.proofs.Laws.{cases, between-true}
+use Rattle.lent.proofs.Laws.{cases}
 use Rattle.card.specs.Derivation.{cardDigits, rightmost, derivationWord}
-
--- a half-byte is a number below 16
-halfByte : ℕ → Bool
-halfByte x = ltb x 16
 
 -- the digits of Y are half-bytes
 half-bytes : (card : List ℕ) (sequence : ℕ) → all digit card ≡ true → Digits 16 (rightmost 16 (cardDigits card sequence))
-unfolding halfByte cardDigits rightmost toBase
+unfolding cardDigits rightmost toBase
 half-bytes card sequence e =
-    let number = all-map digit halfByte digitValue (λ x d. let b = between-true 48 57 x d in lt-ltb (x - 48) 16 (omega arith)) card e in
     let tens : sequence / 10 % 10 < 16 = omega arith in
     let units : sequence / 1 % 10 < 16 = omega arith in
     let s = cardDigits card sequence in
-    let all-half : all halfByte s ≡ true = rw (all-append halfByte, number, lt-ltb _ _ tens, lt-ltb _ _ units) in
+    let all-half : all halfByte s ≡ true = rw (all-append halfByte, values-half-bytes card e, lt-ltb _ _ tens, lt-ltb _ _ units) in
     elements-below 16 (rightmost 16 s) (lit< tt)
     (rw (all-append halfByte, all-replicate halfByte (16 - length s) 0 refl, all-drop halfByte (length s - 16) s all-half))
 

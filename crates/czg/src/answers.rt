@@ -20,19 +20,16 @@ pub(crate) fn put(out: &mut [u8], n: usize, text: &[u8]) -> usize
     written.length
 }
 
-// Puts the hexadecimal digits of bytes, in capitals.
+// Puts the hexadecimal digits of bytes, in capitals; those for which there is no room are left out.
 fn put_digits(out: &mut [u8], n: usize, value: &[u8]) -> usize
     requires { ⌜ n ≤ length (now out) ⌝ }
     ensures { λ r. ⌜ r ≤ length (now (out .exit)) ⌝ }
 {
-    let mut k = n;
-    let mut i: usize = 0;
-    while i < value.len() {
-        let digits = keyentry::byte_text(value[i]);
-        k = put(out, k, &digits);
-        i += 1;
+    let written = keyentry::append_text(out, n, value);
+    if written.number != lent::DONE {
+        return n;
     }
-    k
+    written.length
 }
 
 // Puts a space and a value: as it is where it is a text, else in hexadecimal; a hyphen where it has no bytes.

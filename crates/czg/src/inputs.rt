@@ -4,8 +4,6 @@ use crate::faults::NOT_A_NUMBER;
 use crate::faults::NOT_BYTES;
 use crate::faults::TOO_MANY;
 use crate::lines::find;
-use crate::lines::is;
-use crate::lines::starts;
 use crate::numbers::Decimal;
 use crate::numbers::number_of;
 ghost use mathlib.Core.Path.{_≡_};
@@ -86,16 +84,16 @@ fn with_bytes(i: Inputs, end: usize) -> Inputs
 
 // The largest number that an input can be; 0 where it is no number.
 fn most_number(word: &[u8]) -> u64 {
-    if is(word, b"SIZE") {
+    if lent::same(word, b"SIZE") {
         return 18446744073709551615;
     }
-    if is(word, b"SEQUENCE") {
+    if lent::same(word, b"SEQUENCE") {
         return 4294967295;
     }
-    if is(word, b"NUMBER") {
+    if lent::same(word, b"NUMBER") {
         return 4294967295;
     }
-    if is(word, b"COUNTER") {
+    if lent::same(word, b"COUNTER") {
         return 65535;
     }
     0
@@ -103,13 +101,13 @@ fn most_number(word: &[u8]) -> u64 {
 
 // Whether an input is written as its characters: a PIN, a card number, a text.
 fn is_characters(word: &[u8]) -> bool {
-    if is(word, b"PIN") {
+    if lent::same(word, b"PIN") {
         return true;
     }
-    if is(word, b"CARD") {
+    if lent::same(word, b"CARD") {
         return true;
     }
-    is(word, b"TEXT")
+    lent::same(word, b"TEXT")
 }
 
 // Where the input that starts at `at` ends: a text at the line's end, any other at the next space.
@@ -117,7 +115,7 @@ fn end_of(word: &[u8], line: &[u8], at: usize) -> usize
     requires { ⌜ at ≤ length (now line) ⌝ }
     ensures { λ r. ⌜ (at ≤ r) × (r ≤ length (now (line .entry))) ⌝ }
 {
-    if is(word, b"TEXT") {
+    if lent::same(word, b"TEXT") {
         return line.len();
     }
     find(line, at, b' ')
@@ -127,13 +125,13 @@ fn end_of(word: &[u8], line: &[u8], at: usize) -> usize
 fn put_input(characters: bool, part: &[u8], out: &mut [u8]) -> lent::Answer
     ensures { λ r. ⌜ Written (inputBytes characters (now (part .entry))) (now (out .entry)) (r .number) (r .length) (now (out .exit)) ⌝ }
 {
-    if is(part, b"-") {
+    if lent::same(part, b"-") {
         return lent::lend(b"", out);
     }
     if !characters {
         return keyentry::text_bytes(part, out);
     }
-    if starts(part, b"hex:") {
+    if lent::starts_with(part, b"hex:") {
         return keyentry::text_bytes(&part[4..], out);
     }
     lent::lend(part, out)

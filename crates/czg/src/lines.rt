@@ -2,7 +2,6 @@
 ghost use mathlib.Core.Path.{_≡_};
 ghost use Prim.Native.Nat.{_≤_};
 ghost use lib.ListN.{length, take};
-ghost use Rattle.czg.specs.Inputs.{startsWith, same};
 
 // The first place from `from` on where x stands, or the end.
 pub(crate) fn find(s: &[u8], from: usize, x: u8) -> usize
@@ -17,31 +16,4 @@ pub(crate) fn find(s: &[u8], from: usize, x: u8) -> usize
         i += 1;
     }
     i
-}
-
-// Whether a line starts with a text.
-pub(crate) fn starts(line: &[u8], text: &[u8]) -> bool
-    ensures { λ r. ⌜ r ≡ startsWith (now (text .entry)) (now (line .entry)) ⌝ }
-{
-    let mut i: usize = 0;
-    while i < text.len() {
-        if line.len() <= i {
-            return false;
-        }
-        if line[i] != text[i] {
-            return false;
-        }
-        i += 1;
-    }
-    true
-}
-
-// Whether a part of a line is a text.
-pub(crate) fn is(part: &[u8], text: &[u8]) -> bool
-    ensures { λ r. ⌜ r ≡ same (now (text .entry)) (now (part .entry)) ⌝ }
-{
-    if part.len() != text.len() {
-        return false;
-    }
-    starts(part, text)
 }

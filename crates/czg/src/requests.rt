@@ -1,6 +1,5 @@
 // The head of a request: its name, @ROOM and /LABEL, of which the last two may be left out.
 use crate::lines::find;
-use crate::lines::is;
 use crate::numbers::number_of;
 ghost use Prim.Native.Nat.{_≤_};
 ghost use lib.ListN.{length};
@@ -26,7 +25,7 @@ pub(crate) struct Rooms {
 // Whether a line of the table has that name.
 fn named(usage: &[u8], name: &[u8]) -> bool {
     let end = find(usage, 0, b' ');
-    is(&usage[..end], name)
+    lent::same(&usage[..end], name)
 }
 
 // The line of the table with that name.

@@ -8,7 +8,6 @@ use crate::faults::NO_ROOM;
 use crate::faults::TOO_LONG;
 use crate::inputs::read_inputs;
 use crate::lines::find;
-use crate::lines::is;
 use crate::requests::name_of;
 use crate::requests::rooms_of;
 use crate::requests::usage_of;
@@ -66,7 +65,7 @@ pub(crate) fn answer_line(
     if line[0] == b'#' {
         return n;
     }
-    if is(line, b"help") {
+    if lent::same(line, b"help") {
         return put(out, n, table);
     }
     answer_request(table, line, bytes, out, n)

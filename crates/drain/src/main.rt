@@ -17,16 +17,12 @@ fn text(s: &[u8]) -> bool {
     console::write(b"drain", s) == s.len()
 }
 
-// Writes the hexadecimal digits of bytes.
+// Writes the hexadecimal digits of up to eight bytes.
 fn digits(s: &[u8]) -> bool {
-    let mut i: usize = 0;
-    while i < s.len() {
-        if !text(&keyentry::byte_text(s[i])) {
-            return false;
-        }
-        i += 1;
-    }
-    true
+    let mut room = [0u8; 16];
+    let made = keyentry::append_text(&mut room, 0, s);
+    let k = made.length;
+    text(&room[..k])
 }
 
 // Writes a number in decimal.

@@ -21,7 +21,7 @@ pub text-entered : (letter : ℕ) → (letter ≡ 65) ⊎ (letter ≡ 97) → (k
     → all byte key ≡ true → length key ≡ wanted .0 → keySize wanted ≡ true → keyEntry (textOf letter key) wanted ≡ done key
 text-entered letter case key wanted b n s =
     let h = text-made letter case key b in
-    entered (textOf letter key) wanted s (text-length letter case key ∙ ap (λ (m : ℕ). 2 * m) n) (h .0)
+    entered (textOf letter key) wanted s (text-length letter key ∙ ap (λ (m : ℕ). 2 * m) n) (h .0)
     ∙ ap done (h .1)
 
 -- A text that is entered as a key of the wanted size is the text of that key, its letters' case aside; the key has that size.

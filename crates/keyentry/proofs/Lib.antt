@@ -1,5 +1,5 @@
 mod Doublings
 mod Sizes
 mod Pairs
-mod Texts
+pub mod Texts
 pub mod Laws

@@ -3,13 +3,15 @@ use borrow.Author.Tests.{eqb-true, ltb-true}
 use mathlib.Core.Path.{_≡_, refl, ap}
 use mathlib.Core.Bool.{Bool, true}
 use mathlib.Core.Logic.{_⊎_, inl, inr}
-use mathlib.Core.List.{List, [], _∷_, map}
-use Prim.Native.Nat.{ℕ, zero, suc, _-_, _*_, _/_, _%_, _<_, _≤_}
+use mathlib.Core.List.{List, [], _∷_, _++_, map}
+use Prim.Native.Nat.{ℕ, zero, suc, _+_, _-_, _*_, _/_, _%_, _<_, _≤_}
 use native.Mathlib.Nat.{div-add-mod', mod-lt}
+use native.Mathlib.Numerals.{add-one}
 use native.Mathlib.Omega.{arith}
 use lib.Arith.{digits-div, digits-mod}
 use lib.Dec.{eqb, ltb, lit<}
-use lib.ListN.{length}
+use lib.ListN.{length, getD, take}
+use lib.Seq.{take-suc}
 use Rattle.lent.specs.Choice.{both, pick, all}
 use Rattle.lent.specs.Characters.{digit, small, capitalized, hexadecimal}
 use Rattle.lent.specs.Words.{byte}
@@ -91,8 +93,18 @@ module _ (letter : ℕ) (case : (letter ≡ 65) ⊎ (letter ≡ 97)) where
       let rest = text-made s (hx .1) in
       (rw (high .0, low .0) (rest .0), rw (high .1, low .1, rest .1, div-add-mod' x 16))
 
-  -- two digits for each byte
-  pub text-length : (key : List ℕ) → length (textOf letter key) ≡ 2 * length key
-  unfolding textOf
-  text-length [] = refl
-  text-length (x ∷ s) = omega (arith, text-length s)
+-- two digits for each byte
+pub text-length : (letter : ℕ) (s : List ℕ) → length (textOf letter s) ≡ 2 * length s
+unfolding textOf
+text-length letter [] = refl
+text-length letter (b ∷ s) = omega (arith, text-length letter s)
+
+text-append : (letter : ℕ) (s t : List ℕ) → textOf letter (s ++ t) ≡ textOf letter s ++ textOf letter t
+unfolding textOf
+text-append letter [] t = refl
+text-append letter (b ∷ s) t = rw (text-append letter s t)
+
+-- the text of one more byte
+pub text-next : (letter : ℕ) (s : List ℕ) (i : ℕ) → i < length s
+    → textOf letter (take (i + 1) s) ≡ textOf letter (take i s) ++ textOf letter (getD s i 0 ∷ [])
+text-next letter s i h = rw (add-one i, take-suc s i 0 h) (text-append letter (take i s) (getD s i 0 ∷ []))

@@ -29,7 +29,7 @@ fn digit_of(n: u8) -> u8
 }
 
 // The hexadecimal text of a byte, in capitals.
-pub fn byte_text(b: u8) -> [u8; 2]
+pub(crate) fn byte_text(b: u8) -> [u8; 2]
     ensures { λ r. ⌜ r ≡ textOf 65 (b ∷ []) ⌝ }
 {
     [digit_of(b / 16), digit_of(b % 16)]

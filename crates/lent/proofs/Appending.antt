@@ -1,30 +1,44 @@
 -- Laws on a value that is written after other bytes.
-use borrow.Author.Tests.{le-leb}
+use borrow.Author.Tests.{le-leb, lt-leb, leb-true}
 use mathlib.Core.Path.{_≡_, refl, ap, _∙_}
+use mathlib.Core.Bool.{false}
 use mathlib.Core.List.{List, [], _++_, append-assoc, append-nil}
-use Prim.Native.Nat.{ℕ, _+_, _-_, _≤_}
+use Prim.Native.Nat.{ℕ, _+_, _-_, _<_, _≤_}
 use native.Mathlib.Nat.{add-zero}
 use native.Mathlib.Omega.{arith}
+use lib.Dec.{leb}
 use lib.ListN.{length, take, drop, length-append, length-drop, take-append-drop, drop-of-length-le}
 use lib.Seq.{take-at, drop-append-add, drop-drop, length-take-le}
-use Rattle.lent.specs.Appending.{appending, Appended}
-use Rattle.lent.specs.Result.{over, Written}
+use Rattle.lent.specs.Appending.{appending, Appended, Appends}
+use Rattle.lent.specs.Refusals.{numberOf, shortBuffer}
+use Rattle.lent.specs.Result.{done, lend, over, Written}
+use Rattle.lent.proofs.Laws.{cases}
 use Rattle.lent.proofs.Lists.{part-rest}
+use Rattle.lent.proofs.Results.{Refuses}
 
 module _ (v s : List ℕ) (n : ℕ) where
   pub front-length : n ≤ length s → length (take n s ++ v) ≡ n + length v
   front-length h = rw (length-append, length-take-le n s h)
 
-  -- what `append` leaves where there is room
-  pub appended : n + length v ≤ length s → {after : List ℕ} {num len : ℕ} → Written (appending v s n) s num len after → Appended v s after n len
-  appended room w =
-      let l = front-length (omega arith) in
-      let h = le-leb n (length s) (omega arith) in
-      let k = le-leb (length (take n s ++ v)) (length s) (omega arith) in
-      record {
-        end = rw (h, k) at (w .value) ∙ l;
-        memory = rw (h, k) at (w .memory) ∙ rw l;
-      }
+  -- memory that is too short for the value
+  pub no-room : length s < n + length v → Refuses (numberOf shortBuffer) (lend (length s) (appending v s n))
+  no-room h =
+      let few : n ≤ length s → leb (length (take n s ++ v)) (length s) ≡ false = λ k. lt-leb (length (take n s ++ v)) (length s) (rw (front-length k) h) in
+      (shortBuffer, refl, cases (leb n (length s)) (λ t. simp (t, few (leb-true _ _ t))) (λ f. simp f))
+
+  module _ (room : n + length v ≤ length s) where
+    front : length (take n s ++ v) ≡ n + length v
+    front = front-length (omega arith)
+
+    with-room : lend (length s) (appending v s n) ≡ done (take n s ++ v)
+    with-room = simp (le-leb n (length s) (omega arith), le-leb (length (take n s ++ v)) (length s) (rw front room))
+
+    -- where there is room, the value is appended, and what appends it keeps the promise of `append`
+    pub appended : {after : List ℕ} {num len : ℕ} → Written (appending v s n) s num len after → Appended v s after n len
+    appended w = record { end = rw with-room at (w .value) ∙ front; memory = rw with-room at (w .memory) ∙ rw front }
+
+    pub written-appended : {after : List ℕ} {r : ℕ} → Appended v s after n r → Written (appending v s n) s 0 r after
+    written-appended a = record { number = rw with-room; value = rw (with-room, front) (a .end); memory = rw (with-room, front) (a .memory) }
 
 -- a value that is copied to the start of what stands after the first n bytes
 pub copied-after : (v s : List ℕ) (n : ℕ) → n + length v ≤ length s
@@ -68,3 +82,11 @@ both-appended {v = v} {w = w} {a = a} {b = b} {n = n} {k = k} room p q =
       end = q .end ∙ end;
       memory = q .memory ∙ rw (appended-front p first, appended-after p first (length w), end, append-assoc (take n a) v w);
     }
+
+pub both-appends : {v w a b c : List ℕ} {n k r : ℕ} → Appends v a b n k → Appends w b c k r → Appends (v ++ w) a c n r
+both-appends {v = v} {w = w} {a = a} {b = b} {n = n} {k = k} p q room =
+    let long = length-append v w in
+    let first : n + length v ≤ length a = omega arith in
+    let d = p first in
+    let second : k + length w ≤ length b = omega (arith, appended-length d first, d .end) in
+    both-appended room d (q second)

@@ -10,7 +10,7 @@ use native.Mathlib.Omega.{arith}
 use lib.Dec.{leb}
 use lib.ListN.{length, getD, drop, drop-of-length-le}
 use lib.Seq.{drop-cons}
-use Rattle.lent.specs.Choice.{both, between, all}
+use Rattle.lent.specs.Choice.{both, either, between, all}
 
 -- by cases on a test, whose answer each case knows
 pub cases : {C : Type 0} (b : Bool) → (b ≡ true → C) → (b ≡ false → C) → C
@@ -25,6 +25,11 @@ never e = absurd (omega arith)
 pub both-true : (a b : Bool) → both a b ≡ true → (a ≡ true) × (b ≡ true)
 both-true true b e = (refl, e)
 both-true false b e = (e, cc)
+
+-- a test, or one that does not hold
+pub either-false : (b : Bool) → either b false ≡ b
+either-false true = refl
+either-false false = refl
 
 -- a number between two
 pub between-true : (lo hi x : ℕ) → between lo hi x ≡ true → (lo ≤ x) × (x ≤ hi)

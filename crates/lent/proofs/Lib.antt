@@ -4,3 +4,4 @@ pub mod Lists
 pub mod Parts
 pub mod Results
 pub mod Appending
+pub mod Prefixes

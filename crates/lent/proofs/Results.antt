@@ -50,6 +50,15 @@ then-done (refused why) f b e = never (cc)
 abbrev pub Refuses : {A : Type 0} → ℕ → Result A → Type 0
 Refuses num answer = (why : Refusal) × (num ≡ numberOf why) × (answer ≡ refused why)
 
+-- a number other than 0 is a refusal's
+pub number-refuses : {A : Type 0} (r : Result A) (num : ℕ) → num ≡ number r → (num ≡ 0 → ⊥) → Refuses num r
+number-refuses (done a) num e z = absurd (z e)
+number-refuses (refused why) num e z = (why, e, refl)
+
+-- a refusal stays in what goes on from it
+pub refuses-then : {A B : Type 0} {num : ℕ} {r : Result A} (f : A → Result B) → Refuses num r → Refuses num (andThen r f)
+refuses-then f (why, en, e) = (why, en, rw e)
+
 -- ---- answers by value
 
 -- with the number 0 the result is the value, with any other it is a refusal
@@ -73,9 +82,13 @@ refused-double-block h (why, en, e) = rw (h, en, e) (record { number = refl; val
 -- ---- lent memory
 
 -- a refusal leaves no length, and lent memory as it was
+pub refused-lent : {answer : Result (List ℕ)} {before : List ℕ} {num : ℕ} {r : Answer}
+    → r ≡ record { number = num; length = 0 } → Refuses num (lend (length before) answer) → Written answer before (r .number) (r .length) before
+refused-lent h (why, en, e) = rw h (record { number = rw e en; value = rw e; memory = rw e })
+
 pub refused-answer : {answer : Result (List ℕ)} {before : List ℕ} {num : ℕ} {r : Answer}
     → r ≡ record { number = num; length = 0 } → Refuses num answer → Written answer before (r .number) (r .length) before
-refused-answer h (why, en, e) = rw (h, en, e) (record { number = refl; value = refl; memory = refl })
+refused-answer h (why, en, e) = refused-lent h (why, en, rw e)
 
 -- What a call wrote: a value that is done, or the number of a refusal.
 module _ {answer : Result (List ℕ)} {before after : List ℕ} {num len : ℕ} (w : Written answer before num len after) where

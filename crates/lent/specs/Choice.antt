@@ -28,6 +28,11 @@ abbrev pub all : (ℕ → Bool) → List ℕ → Bool
 all p [] = true
 all p (x ∷ s) = both (p x) (all p s)
 
+-- at least one element passes the test
+abbrev pub any : {A : Type 0} → (A → Bool) → List A → Bool
+any p [] = false
+any p (x ∷ s) = either (p x) (any p s)
+
 -- the elements that pass the test, and no others
 abbrev pub only : {A : Type 0} → (A → Bool) → List A → List A
 only p [] = []

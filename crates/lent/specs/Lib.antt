@@ -1,6 +1,7 @@
 pub mod Choice
 pub mod Words
 pub mod Characters
+pub mod Texts
 pub mod CardNumbers
 pub mod Keys
 pub mod Refusals

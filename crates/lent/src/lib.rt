@@ -4,6 +4,7 @@ mod characters;
 mod memory;
 mod numbers;
 mod sizes;
+mod texts;
 mod words;
 
 pub use answers::Answer;
@@ -39,6 +40,8 @@ pub use numbers::SHORT_BUFFER;
 pub use numbers::SIZE;
 pub use sizes::key_size;
 pub use sizes::sized;
+pub use texts::same;
+pub use texts::starts_with;
 pub use words::byte_at;
 pub use words::bytes_of;
 pub use words::number_of;

@@ -10,11 +10,10 @@ use lib.ListN.{length, take, drop, replicate, length-append}
 use lib.Seq.{take-append-seam}
 use Rattle.lent.specs.Result.{Result, done, refused, number, andThen, lend, over, Answered, Written}
 use Rattle.lent.proofs.Laws.{cases}
-use Rattle.lent.proofs.Results.{Refuses, not-zero, same-done, written-zero, written-done}
+use Rattle.lent.proofs.Results.{Refuses, not-zero, same-done, number-refuses, refuses-then, written-zero, written-done}
 use Rattle.message.specs.Records.{Field, messageFields}
 use Rattle.message.specs.Text.{messageText, Agree}
 use Rattle.message.proofs.Laws.{same-text, never-empty, at-most-166}
-use Rattle.message.proofs.Results.{refuses-then}
 use Rattle.mac.specs.declared.TextMac.{TextMac}
 use Rattle.mac.specs.Mac.{macOf, cleanedMac, messageMac, messageTextAndMac, lendText, textIn, macIn, TextAndMac}
 
@@ -46,11 +45,6 @@ both-fit key m = cases (eqb (length key) 8) (λ k. decided k (messageText m) ref
         let some = lt-ltb _ _ (never-empty m t d) in
         (simp (k, d, some, le-leb _ _ (at-most-166 m t d)), simp (k, d, some))
     decided k (refused why) d = (simp (k, d), simp (k, d))
-
--- the number of a refusal
-number-refuses : {A : Type 0} (r : Result A) (num : ℕ) → num ≡ number r → (num ≡ 0 → ⊥) → Refuses num r
-number-refuses (done a) num e z = absurd (z e)
-number-refuses (refused why) num e z = (why, e, refl)
 
 number-alone : (r : Result (List ℕ × List ℕ)) → number r ≡ number (andThen r (λ a. done (a .1)))
 number-alone (done a) = refl

@@ -6,6 +6,7 @@ use Rattle.lent.specs.Characters.{capitalized}
 use Rattle.lent.specs.Refusals.{fieldForm}
 use Rattle.lent.specs.Words.{toBase}
 use Rattle.lent.specs.Result.{done, refused}
+use Rattle.lent.specs.Texts.{startsWith}
 use Rattle.cleaning.specs.Cleaning.{capitals, kept, keptOnly, trimmedStart, trimmedEnd, trimmed, closedUp, cleaned}
 use Rattle.message.specs.Fields.{table, ruleIn, rule, shaped, formed}
 use Rattle.message.specs.Records.{littleEndian, fieldOf, knownType, checkedField, recordField, records, messageFields}
@@ -24,7 +25,7 @@ text =
     0x30 ∷ 0x32 ∷ 0x30 ∷ 0x30 ∷ 0x20 ∷ 0x30 ∷ 0x30 ∷ 0x30 ∷ 0x30 ∷ 0x30 ∷ 0x30 ∷ 0x20 ∷ 0x41 ∷ 0x31 ∷ []
 
 whole-case : messageText message ≡ done text
-unfolding message text capitalized toBase capitals kept keptOnly trimmedStart trimmedEnd trimmed closedUp cleaned table ruleIn rule shaped formed littleEndian fieldOf knownType checkedField recordField records messageFields entered listedOnly joined textOf messageText
+unfolding message text capitalized toBase startsWith capitals kept keptOnly trimmedStart trimmedEnd trimmed closedUp cleaned table ruleIn rule shaped formed littleEndian fieldOf knownType checkedField recordField records messageFields entered listedOnly joined textOf messageText
 whole-case = refl
 
 -- 03x0 is 4, not 3

@@ -5,5 +5,4 @@ mod Room
 mod Joining
 mod Rising
 mod Agreeing
-pub mod Results
 pub mod Laws

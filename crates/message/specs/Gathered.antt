@@ -1,9 +1,7 @@
 -- What only the contracts of private functions cite: a record as it is read, and the listed fields as they are gathered before the text is
 -- cleaned, each with a space before it.
 use mathlib.Core.List.{List, [], _∷_, _++_, map}
-use Prim.Native.Nat.{ℕ, _+_, _≤_}
-use lib.ListN.{length}
-use Rattle.lent.specs.Appending.{Appended}
+use Prim.Native.Nat.{ℕ, _+_}
 use Rattle.lent.specs.Choice.{pick}
 use Rattle.lent.specs.Refusals.{numberOf}
 use Rattle.lent.specs.Result.{Result, done, refused, andThen}
@@ -36,7 +34,3 @@ spaced fs = spaceBeforeEach (map shownField (listedOnly fs))
 -- those of a message
 unfoldable pub gathered : List ℕ → Result (List ℕ)
 gathered s = andThen (messageFields s) (λ fs. done (spaced fs))
-
--- What a private function that appends promises: the value stands after the first n bytes if there is room for it.
-abbrev pub Appends : List ℕ → List ℕ → List ℕ → ℕ → ℕ → Type 0
-Appends value before after n r = n + length value ≤ length before → Appended value before after n r

@@ -1,13 +1,14 @@
 -- The records of a message and their refusals (01, The message and its MAC text; Numbers an operator sees).
-use mathlib.Core.Bool.{Bool, true, false, not}
+use mathlib.Core.Bool.{Bool, not}
 use mathlib.Core.List.{List, [], _∷_, map}
 use Prim.Native.Nat.{ℕ, zero, suc, _+_, _*_}
 use lib.Dec.{leb, ltb, eqb}
 use lib.ListN.{length, take, drop, getD}
-use Rattle.lent.specs.Choice.{both, either}
+use Rattle.lent.specs.Choice.{both, either, any}
 use Rattle.lent.specs.Characters.{twoDigits}
 use Rattle.lent.specs.Refusals.{cutShort, fieldOrder, fieldForm, messageType, size}
 use Rattle.lent.specs.Result.{Result, done, require, andThen}
+use Rattle.lent.specs.Texts.{startsWith}
 use Rattle.message.specs.declared.records.Place.{Place}
 use Rattle.message.specs.declared.records.Place.the-variants.{First, After}
 use Rattle.message.specs.Fields.{rule, formed}
@@ -34,25 +35,13 @@ abbrev pub inOrder : Place → ℕ → Bool
 inOrder First n = eqb n 0
 inOrder (After before) n = both (ltb before n) (leb n 192)
 
--- two texts are the same
-abbrev pub same : List ℕ → List ℕ → Bool
-same [] [] = true
-same [] (y ∷ t) = false
-same (x ∷ s) [] = false
-same (x ∷ s) (y ∷ t) = both (eqb x y) (same s t)
-
--- a text is one of a list
-abbrev pub oneOf : List (List ℕ) → List ℕ → Bool
-oneOf [] s = false
-oneOf (t ∷ ts) s = either (same t s) (oneOf ts s)
-
 -- 01, 02, 04 and 05
 abbrev pub typeStarts : List (List ℕ)
 typeStarts = map twoDigits (1 ∷ 2 ∷ 4 ∷ 5 ∷ [])
 
 -- field 0, the message type, starts with one of them
 unfoldable pub knownType : ℕ → List ℕ → Bool
-knownType n s = either (not (eqb n 0)) (oneOf typeStarts (take 2 s))
+knownType n s = either (not (eqb n 0)) (any (λ start. startsWith start s) typeStarts)
 
 -- a field at its place in a message: 2, 4, 3, or the field
 unfoldable pub checkedField : Place → Field → Result Field

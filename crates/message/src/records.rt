@@ -52,16 +52,16 @@ fn known_type(field: usize, body: &[u8]) -> bool
     if field != 0 {
         return true;
     }
-    if lent::byte_at(body, 0) != b'0' {
-        return false;
+    if lent::starts_with(body, b"01") {
+        return true;
     }
-    match lent::byte_at(body, 1) {
-        b'1' => true,
-        b'2' => true,
-        b'4' => true,
-        b'5' => true,
-        _ => false,
+    if lent::starts_with(body, b"02") {
+        return true;
     }
+    if lent::starts_with(body, b"04") {
+        return true;
+    }
+    lent::starts_with(body, b"05")
 }
 
 // Why a field is refused at its place: 2, 4, 3, or 0 if it is not.

@@ -39,9 +39,8 @@ fewer input h = rw (short-answer input h)
 pub key-alone : (input : List ℕ) → length input ≡ 8 → output input ≡ refusedWord ++ 49 ∷ 10 ∷ []
 unfolding lines decimal answer messageTextAndMac messageMac messageText messageFields
 key-alone input e =
-    let whole : 8 ≤ length input = omega arith in
     let none : drop 8 input ≡ [] = drop-of-length-le input {i = 8} (omega arith) in
-    simp (le-leb _ _ whole, none, take-all 8 input (omega arith), e)
+    simp (none, take-all 8 input (omega arith), e)
 
 long-answer : (input : List ℕ) → 4104 < length input → answer input ≡ refused size
 unfolding answer messageTextAndMac messageMac messageText messageFields

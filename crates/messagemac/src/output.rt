@@ -3,8 +3,8 @@ ghost use mathlib.Core.Path.{_≡_};
 ghost use mathlib.Core.List.{_++_};
 ghost use Prim.Native.Nat.{_≤_};
 ghost use lib.ListN.{length, take};
+ghost use Rattle.lent.specs.Appending.{Appends};
 ghost use Rattle.keyentry.specs.Hexadecimal.{textOf};
-ghost use Rattle.message.specs.Gathered.{Appends};
 ghost use Rattle.messagemac.specs.Output;
 ghost use Rattle.messagemac.specs.Output.{line, decimal, refusedWord, Made};
 
@@ -32,14 +32,8 @@ fn append_decimal(out: &mut [u8], n: usize, number: u32) -> usize
 fn append_digits(out: &mut [u8], n: usize, mac: [u8; 8]) -> usize
     ensures { λ r. ⌜ Appends (textOf 65 mac) (now (out .entry)) (now (out .exit)) n r ⌝ }
 {
-    let mut k = n;
-    let mut i: usize = 0;
-    while i < 8 {
-        let digits = keyentry::byte_text(mac[i]);
-        k = append(out, k, &digits);
-        i += 1;
-    }
-    k
+    let appended = keyentry::append_text(out, n, &mac);
+    appended.length
 }
 
 // Makes the line of a refusal.

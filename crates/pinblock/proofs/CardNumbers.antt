@@ -10,11 +10,11 @@ use Rattle.lent.specs.CardNumbers.{cardSize}
 use Rattle.lent.specs.Choice.{all}
 use Rattle.lent.specs.Characters.{digit, digitValue}
 use Rattle.lent.proofs.Laws.{between-true}
-use Rattle.lent.proofs.Lists.{all-take, all-drop}
+use Rattle.lent.proofs.Lists.{all-take, all-drop, halfByte, values-half-bytes}
 use Rattle.pinblock.specs.CardNumber.{rightmostTwelve, cardHalfBytes, cardPart}
 use Rattle.pinblock.specs.Private.{lowHalf, wordOf}
-use Rattle.pinblock.proofs.HalfBytes.{halfByte, word-lt, word-of}
-use Rattle.pinblock.proofs.Pins.{low-digits, values-half-bytes}
+use Rattle.pinblock.proofs.HalfBytes.{word-lt, word-of}
+use Rattle.pinblock.proofs.Pins.{low-digits}
 
 pub card-long : (card : List ℕ) → cardSize card ≡ true → 13 ≤ length card
 card-long card h = between-true 13 19 (length card) h .0

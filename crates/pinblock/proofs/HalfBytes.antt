@@ -7,7 +7,7 @@ use Prim.Native.Nat.{ℕ, suc, _+_, _-_, _*_, _/_, _%_, _^_, _<_}
 use native.Mathlib.Nat.{mod-eq-of-lt}
 use native.Mathlib.Numerals.{add-one}
 use native.Mathlib.Omega.{arith}
-use lib.Dec.{eqb, ltb, lit<}
+use lib.Dec.{eqb, lit<}
 use lib.ListN.{length, getD, take, drop, set, length-drop, length-append}
 use lib.Seq.{getD-drop, getD-append-seam, take-suc, take-suc-set}
 use Rattle.lent.specs.Characters.{digitOf}
@@ -15,7 +15,7 @@ use Rattle.lent.specs.Choice.{all}
 use Rattle.lent.specs.Words.{fromBase, toBase}
 use Rattle.lent.proofs.Bases.{to-at, to-length, to-from, from-lt}
 use Rattle.lent.proofs.Laws.{holdsFrom, holds-below}
-use Rattle.lent.proofs.Lists.{elements-below}
+use Rattle.lent.proofs.Lists.{elements-below, halfByte}
 use Rattle.lent.proofs.Parts.{from-front}
 use Rattle.pinblock.specs.Private.{lowHalf, wordOf}
 
@@ -55,10 +55,6 @@ pub character-more : (s text : List ℕ) (i : ℕ) → i < length text
     → wordOf (s ++ map lowHalf (take (i + 1) text)) ≡ (wordOf (s ++ map lowHalf (take i text)) * 16 + getD text i 0 % 16) % 2 ^ 64
 character-more s text i h =
     rw (add-one i, take-suc text i 0 h, map-append, ← append-assoc) (one-more (s ++ map lowHalf (take i text)) (getD text i 0 % 16))
-
--- a half-byte is a number below 16
-abbrev pub halfByte : ℕ → Bool
-halfByte x = ltb x 16
 
 -- Sixteen half-bytes are those of their word.
 module _ (s : List ℕ) (n : length s ≡ 16) (h : all halfByte s ≡ true) where

@@ -12,11 +12,11 @@ use Rattle.lent.specs.Choice.{all}
 use Rattle.lent.specs.Characters.{digit, digitValue, digitOf}
 use Rattle.lent.specs.Words.{fromBase, toBase}
 use Rattle.lent.proofs.Laws.{both-true, between-true}
-use Rattle.lent.proofs.Lists.{all-map, all-append, all-replicate, take-replicate}
+use Rattle.lent.proofs.Lists.{all-append, all-replicate, take-replicate, halfByte, values-half-bytes}
 use Rattle.pinblock.specs.Pin.{pinSize, permitted, pinHalfBytes, pinBlock}
 use Rattle.pinblock.specs.Private.{lowHalf, wordOf}
 use Rattle.pinblock.specs.Reading.{candidate}
-use Rattle.pinblock.proofs.HalfBytes.{halfByte, word-lt, word-of, half-bytes-of}
+use Rattle.pinblock.proofs.HalfBytes.{word-lt, word-of, half-bytes-of}
 
 -- ---- digits and their values
 
@@ -38,10 +38,6 @@ low-digits = map-digits lowHalf digitValue (λ x h k. omega arith)
 low-fill : (n : ℕ) → map lowHalf (replicate n 15) ≡ replicate n 15
 low-fill zero = refl
 low-fill (suc n) = rw (low-fill n)
-
-pub values-half-bytes : (s : List ℕ) → all digit s ≡ true → all halfByte (map digitValue s) ≡ true
-values-half-bytes =
-    all-map digit halfByte digitValue (λ x e. let h = between-true 48 57 x e in lt-ltb (x - 48) 16 (omega arith))
 
 -- ---- permitted PINs
 

@@ -1,19 +1,25 @@
 -- `digits` meets its contract.
 use borrow.Author.Needs.{needs}
-use Prim.Native.Nat.{_≤_, _-_}
+use mathlib.Core.Path.{sym}
+use Prim.Native.Nat.{_≤_}
 use lib.ListN.{length}
+use lib.Seq.{length-take-le}
+use Rattle.lent.proofs.Results.{written-within, written-length}
 use Rattle.drain.proofs.digits.Statement.{statement}
 use Rattle.drain.proofs.digits.Tie as tie
 
-abbrev Inv-loop : tie.InvT-loop
-Inv-loop s i₀ i = i ≤ length s
+-- no more was written than there is room for
+within : (c : tie.After-append-text) → c .append-text .result .length ≤ length (c .append-text .last .0)
+within c = let w = c .append-text .ensures in rw (written-length w) (written-within w)
 
-abbrev μ-loop : tie.MeasureT-loop
-μ-loop s i₀ i = length s - i
+array-share-prefix-room : tie.Need-array-share-prefix-room
+array-share-prefix-room c = within (c .before)
+
+slice-aggregate-text : tie.Need-slice-aggregate-text
+slice-aggregate-text c = sym (length-take-le _ _ (within (c .before .before)))
 
 pub digits-spec : {M : Type 1} → statement M
 digits-spec =
     tie.close
-    (tie.spec Inv-loop μ-loop (λ c. search needs) (λ c. search needs) (λ c κs. search needs) (λ c. search needs)
-    (λ c κs. search needs) (λ c. search needs) (λ c. search needs) (λ c. search needs) (λ c. search needs)
-    (λ c. search needs))
+    (tie.spec (λ c. search needs) (λ c κs. search needs) array-share-prefix-room slice-aggregate-text
+    (λ c κs. search needs) (λ c. search needs))

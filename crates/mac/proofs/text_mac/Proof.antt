@@ -8,10 +8,9 @@ use lib.ListN.{length, take}
 use lib.Seq.{length-take-le}
 use Rattle.lent.specs.Refusals.{size, emptyText}
 use Rattle.lent.specs.Result.{done}
-use Rattle.lent.proofs.Results.{refused-block, written-refused, written-done}
+use Rattle.lent.proofs.Results.{refuses-then, refused-block, written-refused, written-done}
 use Rattle.cleaning.specs.Cleaning.{cleanText}
 use Rattle.cleaning.proofs.Laws.{clean-fits}
-use Rattle.message.proofs.Results.{refuses-then}
 use Rattle.mac.specs.Mac.{macOf, cleanedMac, textMac}
 use borrow.Author.Needs.{needs}
 use Rattle.mac.proofs.text_mac.Statement.{statement}

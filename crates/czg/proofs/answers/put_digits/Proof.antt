@@ -1,20 +1,14 @@
 -- `put_digits` meets its contract.
 use borrow.Author.Needs.{needs}
-use mathlib.Core.Path.{_≡_}
-use Prim.Native.Nat.{_≤_, _-_}
-use lib.ListN.{length}
+use native.Mathlib.Omega.{arith}
+use Rattle.lent.proofs.Results.{written-within}
 use Rattle.czg.proofs.answers.put_digits.Statement.{statement}
 use Rattle.czg.proofs.answers.put_digits.Tie as tie
 
-abbrev Inv-loop : tie.InvT-loop
-Inv-loop out₀ n value k₀ i₀ out k i = (i ≤ length value) × (k ≤ length out) × (length out ≡ length out₀)
-
-abbrev μ-loop : tie.MeasureT-loop
-μ-loop out₀ n value k₀ i₀ out k i = length value - i
+returns-2 : tie.Need-returns-2
+returns-2 c = let w = written-within (c .before .before .before .before .append-text .ensures) in omega arith
 
 pub put-digits-spec : {M : Type 1} → statement M
 put-digits-spec =
     tie.close
-    (tie.spec Inv-loop μ-loop (λ c. search needs) (λ c. search needs) (λ c κs. search needs) (λ c. search needs)
-    (λ c κs. search needs) (λ c. search needs) (λ c. search needs) (λ c. search needs) (λ c. search needs)
-    (λ c. search needs))
+    (tie.spec (λ c κs. search needs) (λ c. search needs) (λ c. search needs) (λ c. search needs) returns-2)

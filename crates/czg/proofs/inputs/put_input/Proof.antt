@@ -6,7 +6,7 @@ use Prim.Native.Nat.{_≤_}
 use lib.ListN.{length}
 use Rattle.lent.proofs.Lists.{part-rest}
 use Rattle.czg.specs.Inputs.{hex, inputBytes}
-use Rattle.czg.proofs.Prefixes.{starts-length}
+use Rattle.lent.proofs.Prefixes.{starts-length}
 use Rattle.czg.proofs.inputs.put_input.Statement.{statement}
 use Rattle.czg.proofs.inputs.put_input.Tie as tie
 
@@ -14,20 +14,20 @@ returns : tie.Need-returns
 unfolding inputBytes
 returns c =
     let i = c .before .before .before .before .before .before in
-    simp (sym (i .is .ensures) ∙ c .before .before .before .before .before .if1 .taken) (c .before .before .lend .ensures)
+    simp (sym (i .same .ensures) ∙ c .before .before .before .before .before .if1 .taken) (c .before .before .lend .ensures)
 
 returns-2 : tie.Need-returns-2
 unfolding inputBytes
 returns-2 c =
     let i = c .before .before .before .before .before .before in
     let k = i .before .before .before .before in
-    simp (sym (i .is .ensures) ∙ c .before .before .before .before .before .if1 .left, not-true (k .args .characters) (c .before .before .before .before .if2 .taken)) (c .before .before .text-bytes .ensures)
+    simp (sym (i .same .ensures) ∙ c .before .before .before .before .before .if1 .left, not-true (k .args .characters) (c .before .before .before .before .if2 .taken)) (c .before .before .text-bytes .ensures)
 
 -- what starts with `hex:` has four characters
 four : (c : tie.Then3) → 4 ≤ length (c .before .before .before .before .before .before .before .before .before .args .part .now)
 four c =
     let a = c .before .before .before .before .before .before .before .before .before .args in
-    starts-length hex (a .part .now) (sym (c .before .starts .ensures) ∙ c .if3 .taken)
+    starts-length hex (a .part .now) (sym (c .before .starts-with .ensures) ∙ c .if3 .taken)
 
 sub-text-bytes : tie.Need-sub-text-bytes
 sub-text-bytes c = four c
@@ -41,7 +41,7 @@ returns-3 c =
     let s = c .before .before .before .before .before .before in
     let i = s .before .before .before .before in
     let k = i .before .before .before .before in
-    simp (sym (i .is .ensures) ∙ s .before .before .before .if1 .left, not-false (k .args .characters) (s .before .before .if2 .left), sym (s .starts .ensures) ∙ c .before .before .before .before .before .if3 .taken)
+    simp (sym (i .same .ensures) ∙ s .before .before .before .if1 .left, not-false (k .args .characters) (s .before .before .if2 .left), sym (s .starts-with .ensures) ∙ c .before .before .before .before .before .if3 .taken)
     (rw part-rest at (c .before .before .text-bytes2 .ensures))
 
 returns-4 : tie.Need-returns-4
@@ -50,7 +50,7 @@ returns-4 c =
     let s = c .before .before .before .before .before in
     let i = s .before .before .before .before in
     let k = i .before .before .before .before in
-    simp (sym (i .is .ensures) ∙ s .before .before .before .if1 .left, not-false (k .args .characters) (s .before .before .if2 .left), sym (s .starts .ensures) ∙ c .before .before .before .before .if3 .left)
+    simp (sym (i .same .ensures) ∙ s .before .before .before .if1 .left, not-false (k .args .characters) (s .before .before .if2 .left), sym (s .starts-with .ensures) ∙ c .before .before .before .before .if3 .left)
     (c .before .before .lend2 .ensures)
 
 pub put-input-spec : {M : Type 1} → statement M

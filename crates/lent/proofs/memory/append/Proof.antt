@@ -1,39 +1,30 @@
 -- `append` meets its contract.
 use borrow.Author.Needs.{needs}
-use borrow.Author.Tests.{le-leb, lt-leb}
-use mathlib.Core.Path.{_≡_, sym}
-use mathlib.Core.List.{_++_}
-use Prim.Native.Nat.{_+_}
+use mathlib.Core.Path.{_≡_, refl, _∙_}
 use native.Mathlib.Omega.{arith}
-use lib.ListN.{length, take}
-use Rattle.lent.proofs.Appending.{front-length, copied-after}
+use Rattle.lent.proofs.Appending.{front-length, no-room, written-appended, copied-after}
+use Rattle.lent.proofs.Results.{refused-lent}
 use Rattle.lent.proofs.memory.append.Statement.{statement}
 use Rattle.lent.proofs.memory.append.Tie as tie
 
 returns : tie.Need-returns
 returns c =
-    let h = lt-leb _ _ (c .before .if1 .taken) in
-    record { number = simp h (cc); value = simp h (cc); memory = simp h }
+    let a = c .before .before .before .before .args in
+    refused-lent (c .refused .ensures) (no-room (a .value .now) (a .out .now) (a .n) (omega arith))
 
 returns-2 : tie.Need-returns-2
 returns-2 c =
     let a = c .before .before .before .before .before .args in
-    let h = le-leb (a .n) (length (a .out .now)) (omega arith) in
-    let k = lt-leb (length (take (a .n) (a .out .now) ++ a .value .now)) (length (a .out .now))
-    (omega (arith, front-length (a .value .now) (a .out .now) (a .n) (omega arith))) in
-    record { number = simp (h, k) (cc); value = simp (h, k) (cc); memory = simp (h, k) }
+    refused-lent (c .refused2 .ensures) (no-room (a .value .now) (a .out .now) (a .n) (omega arith))
 
 returns-3 : tie.Need-returns-3
 returns-3 c =
     let a = c .before .before .before .before .before .before .before .before .args in
-    let l = front-length (a .value .now) (a .out .now) (a .n) (omega arith) in
-    let h = le-leb (a .n) (length (a .out .now)) (omega arith) in
-    let k = le-leb (length (take (a .n) (a .out .now) ++ a .value .now)) (length (a .out .now)) (omega arith) in
-    record {
-      number = simp (h, k);
-      value = simp (h, k) (sym l);
-      memory = simp (h, k) (rw (c .before .before .copy .ensures) (copied-after (a .value .now) (a .out .now) (a .n) (omega arith)));
-    }
+    let v = a .value .now in
+    let s = a .out .now in
+    let front = front-length v s (a .n) (omega arith) in
+    written-appended v s (a .n) (omega arith)
+    (record { end = refl; memory = rw (c .before .before .copy .ensures) (copied-after v s (a .n) (omega arith) ∙ rw front) })
 
 pub append-spec : {M : Type 1} → statement M
 append-spec =

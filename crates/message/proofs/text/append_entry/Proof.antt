@@ -1,6 +1,6 @@
 -- `append_entry` meets its contract.
 use Rattle.message.specs.Text.{entered}
-use Rattle.message.proofs.Results.{both-appends}
+use Rattle.lent.proofs.Appending.{both-appends}
 use borrow.Author.Needs.{needs}
 use Rattle.message.proofs.text.append_entry.Statement.{statement}
 use Rattle.message.proofs.text.append_entry.Tie as tie

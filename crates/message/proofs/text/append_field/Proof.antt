@@ -1,7 +1,6 @@
 -- `append_field` meets its contract.
-use Rattle.lent.proofs.Appending.{nothing-appended}
+use Rattle.lent.proofs.Appending.{nothing-appended, both-appends}
 use Rattle.message.specs.Gathered.{spacedField}
-use Rattle.message.proofs.Results.{both-appends}
 use borrow.Author.Needs.{needs}
 use Rattle.message.proofs.text.append_field.Statement.{statement}
 use Rattle.message.proofs.text.append_field.Tie as tie

@@ -11,6 +11,7 @@ use Rattle.lent.specs.Refusals.{cutShort, size}
 use Rattle.lent.specs.Result.{done}
 use Rattle.lent.proofs.Appending.{appended-front}
 use Rattle.lent.proofs.Lists.{part-rest}
+use Rattle.lent.proofs.Results.{refuses-then}
 use Rattle.message.specs.declared.records.Place.{Place}
 use Rattle.message.specs.declared.records.Place.the-variants.{After}
 use Rattle.message.specs.Fields.{rule}
@@ -18,7 +19,6 @@ use Rattle.message.specs.Records.{bodySize, fieldOf, recordField, record
 use Rattle.message.specs.Gathered.{readOf, spacedField, spaced, gathered}
 use Rattle.message.proofs.Reading.{Sound, read-field, read-refused}
 use Rattle.message.proofs.Walking.{following, following-end, following-field, records-next, refused-gathered}
-use Rattle.message.proofs.Results.{refuses-then}
 use Rattle.message.proofs.Room.{room, room-short, room-grows}
 use Rattle.message.proofs.text.gather.Statement.{statement}
 use Rattle.message.proofs.text.gather.Tie as tie

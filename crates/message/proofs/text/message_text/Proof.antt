@@ -6,12 +6,11 @@ use native.Mathlib.Omega.{arith}
 use lib.ListN.{length, take}
 use lib.Seq.{length-take-le}
 use Rattle.lent.specs.Result.{done}
-use Rattle.lent.proofs.Results.{answered-done, answered-refused, refused-answer}
+use Rattle.lent.proofs.Results.{answered-done, answered-refused, refuses-then, refused-answer}
 use Rattle.cleaning.specs.Cleaning.{cleaned}
 use Rattle.cleaning.proofs.Laws.{clean-done}
 use Rattle.message.specs.Gathered.{gathered}
 use Rattle.message.proofs.Joining.{text-gathered}
-use Rattle.message.proofs.Results.{refuses-then}
 use Rattle.message.proofs.text.message_text.Statement.{statement}
 use Rattle.message.proofs.text.message_text.Tie as tie
 

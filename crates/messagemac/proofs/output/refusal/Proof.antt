@@ -1,5 +1,5 @@
 -- `refusal` meets its contract.
-use Rattle.message.proofs.Results.{both-appends}
+use Rattle.lent.proofs.Appending.{both-appends}
 use borrow.Author.Needs.{needs}
 use Rattle.messagemac.proofs.output.refusal.Statement.{statement}
 use Rattle.messagemac.proofs.output.refusal.Tie as tie

@@ -1,5 +1,5 @@
 -- `two_lines` meets its contract.
-use Rattle.message.proofs.Results.{both-appends}
+use Rattle.lent.proofs.Appending.{both-appends}
 use borrow.Author.Needs.{needs}
 use Rattle.messagemac.proofs.output.two_lines.Statement.{statement}
 use Rattle.messagemac.proofs.output.two_lines.Tie as tie
