@@ -2,18 +2,20 @@
 use borrow.Author.Tests.{leb-true, leb-false, lt-ltb}
 use mathlib.Core.Path.{_≡_, refl, sym, ap, _∙_}
 use mathlib.Core.Bool.{true}
-use mathlib.Core.List.{List, [], _∷_, _++_, map}
-use Prim.Native.Nat.{ℕ, zero, suc, _+_, _-_, _*_, _/_, _%_, _^_, _<_, _≤_}
+use mathlib.Core.List.{List, _++_, map}
+use Prim.Native.Nat.{ℕ, _+_, _-_, _*_, _/_, _%_, _^_, _<_, _≤_}
 use native.Mathlib.Nat.{zero-add, zero-mul, mod-eq-of-lt}
 use native.Mathlib.Omega.{arith}
 use lib.Arith.{digits-mod}
 use lib.Dec.{leb, lit<}
-use lib.ListN.{length, take, drop, replicate, length-append, length-map, length-replicate, length-drop, take-append-drop}
+use lib.ListN.{length, take, drop, replicate, length-replicate, take-append-drop}
 use lib.Seq.{length-take-le}
 use Rattle.lent.proofs.Parts.{from-append, from-zeros}
-use Rattle.lent.proofs.Lists.{all-append, all-replicate, all-drop, elements-below, halfByte, values-half-bytes}
+use Rattle.lent.proofs.HalfBytes.{halfByte, values-half-bytes, low-digits}
+use Rattle.lent.proofs.Lists.{all-append, all-replicate, all-drop, elements-below}
 use Rattle.lent.specs.Choice.{all}
-use Rattle.lent.specs.Characters.{digit, digitValue}
+use Rattle.lent.specs.Characters.{digit, digitOf, twoDigits}
+use Rattle.lent.specs.HalfBytes.{lowHalf, wordOf}
 use Rattle.lent.specs.Words.{fromBase, toBase}
 use Rattle.lent.proofs.Bases.{Digits, from-lt}
 use Rattle.lent.proofs.Laws.{cases}
@@ -67,15 +69,20 @@ module _ (b n : ℕ) (s : List ℕ) where
       (λ h. rw (← short (leb-true _ _ h)) (sym (mod-eq-of-lt lt)))
       (λ h. rw (long (leb-false _ _ h)) (sym (digits-mod _ lt)))
 
--- Y by its value: the card number's half-bytes with two more after them, of which sixteen are kept
-pub derivation-value : (card : List ℕ) (sequence : ℕ) → all digit card ≡ true → sequence ≤ 99
-    → derivationWord card sequence ≡ ((fromBase 16 (length card) (map digitValue card) * 16 + sequence / 10) * 16 + sequence % 10) % 2 ^ 64
-unfolding derivationWord cardDigits fromBase toBase
-derivation-value card sequence e h =
-    let s = map digitValue card in
-    let t = toBase 10 2 sequence in
-    let x = fromBase 16 (length card) s in
-    let n : length s ≡ length card = length-map card digitValue in
-    let sum : x * 256 + fromBase 16 2 t ≡ (x * 16 + sequence / 10) * 16 + sequence % 10 = omega arith in
-    rightmost-word 16 16 (s ++ t) (half-bytes card sequence e)
-    ∙ rw (length-append s t, from-append 16 s t 2, n) (ap (λ (y : ℕ). y % 2 ^ 64) sum)
+-- Y is the word of the digits' half-bytes
+pub derivation-value : (card : List ℕ) (sequence : ℕ) → all digit card ≡ true → derivationWord card sequence ≡ wordOf (cardDigits card sequence)
+unfolding derivationWord wordOf
+derivation-value card sequence e = rightmost-word 16 16 (cardDigits card sequence) (half-bytes card sequence e)
+
+-- the low half-bytes of the digits of a sequence
+low-two : (n : ℕ) → map lowHalf (twoDigits n) ≡ toBase 10 2 n
+unfolding toBase
+low-two n =
+    let tens : lowHalf (digitOf (n / 10 % 10)) ≡ n / 10 % 10 = omega arith in
+    let units : lowHalf (digitOf (n / 1 % 10)) ≡ n / 1 % 10 = omega arith in
+    rw (tens, units)
+
+-- the card number's characters, then two of the sequence, by their low half-bytes
+pub low-characters : (card : List ℕ) (sequence : ℕ) → all digit card ≡ true → map lowHalf card ++ map lowHalf (twoDigits sequence) ≡ cardDigits card sequence
+unfolding cardDigits
+low-characters card sequence e = rw (low-digits card e, low-two sequence)

@@ -3,15 +3,10 @@ use mathlib.Core.Path.{_≡_}
 use mathlib.Core.List.{List, _∷_, _++_}
 use Prim.Native.Nat.{ℕ, suc, _+_, _-_, _*_, _/_, _%_, _≤_}
 use native.Mathlib.Omega.{arith}
-use lib.ListN.{length, take, set, replicate, length-append, length-replicate}
+use lib.ListN.{length, take, set, replicate}
 use lib.Seq.{set-append-seam, take-append-add}
 use Rattle.lent.proofs.Lists.{take-replicate}
 use Rattle.card.specs.Padding.{padded}
-
--- one block more than the data's whole blocks
-pub padded-length : (s : List ℕ) → length (padded s) ≡ 8 * (length s / 8 + 1)
-unfolding padded
-padded-length s = rw (length-append s (128 ∷ replicate (7 - length s % 8) 0), length-replicate) (omega arith)
 
 -- 80 hex stored after data that stand before zeros
 pub padded-stored : (s : List ℕ) → length s ≤ 255

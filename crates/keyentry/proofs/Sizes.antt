@@ -1,7 +1,7 @@
 -- The tests of key entry in their order.
 use borrow.Author.Tests.{eqb-true, eq-eqb}
 use mathlib.Core.Path.{_≡_}
-use mathlib.Core.Bool.{true, false}
+use mathlib.Core.Bool.{true}
 use mathlib.Core.List.{List}
 use Prim.Native.Nat.{ℕ, _*_, _%_}
 use native.Mathlib.Omega.{arith}
@@ -10,7 +10,7 @@ use lib.ListN.{length}
 use Rattle.lent.specs.Choice.{all}
 use Rattle.lent.specs.Characters.{hexadecimal}
 use Rattle.lent.specs.Refusals.{size, character}
-use Rattle.lent.specs.Result.{done, refused, require}
+use Rattle.lent.specs.Result.{done, require}
 use Rattle.lent.proofs.Results.{require-done}
 use Rattle.keyentry.specs.KeyEntry.{keyOf, textBytes, keySize, fullText, keyEntry}
 use Rattle.keyentry.specs.declared.units.Bytes.{Bytes}

@@ -1,5 +1,5 @@
--- Laws on lists: parts, repeated elements, and tests that every element passes; half-bytes.
-use borrow.Author.Tests.{lt-ltb, ltb-true, ltb-false}
+-- Laws on lists: parts, repeated elements, and tests that every element passes.
+use borrow.Author.Tests.{ltb-true, ltb-false}
 use mathlib.Core.Path.{_≡_, refl}
 use mathlib.Core.Bool.{Bool, true}
 use mathlib.Core.List.{List, [], _∷_, _++_, map}
@@ -10,8 +10,7 @@ use lib.Dec.{ltb}
 use lib.ListN.{length, getD, take, drop, replicate, length-drop, List·getD-eq-default}
 use lib.Seq.{take-all}
 use Rattle.lent.specs.Choice.{both, all}
-use Rattle.lent.specs.Characters.{digit, digitValue}
-use Rattle.lent.proofs.Laws.{cases, both-true, between-true, all-at}
+use Rattle.lent.proofs.Laws.{cases, both-true, all-at}
 use Rattle.lent.proofs.Bases.{Digits}
 
 -- ---- parts
@@ -77,14 +76,3 @@ pub elements-below : (b : ℕ) (s : List ℕ) → 0 < b → all (λ (x : ℕ). l
 elements-below b s p e k =
     cases (ltb k (length s)) (λ h. ltb-true _ _ (all-at (λ (x : ℕ). ltb x b) s k e (ltb-true k (length s) h)))
     (λ h. let past : length s ≤ k = ltb-false k (length s) h in rw (List·getD-eq-default s 0 past) p)
-
--- ---- half-bytes
-
--- a half-byte is a number below 16
-abbrev pub halfByte : ℕ → Bool
-halfByte x = ltb x 16
-
--- the values of digits are half-bytes
-pub values-half-bytes : (s : List ℕ) → all digit s ≡ true → all halfByte (map digitValue s) ≡ true
-values-half-bytes =
-    all-map digit halfByte digitValue (λ x e. let h = between-true 48 57 x e in lt-ltb (x - 48) 16 (omega arith))

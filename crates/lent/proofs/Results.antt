@@ -10,7 +10,7 @@ use lib.ListN.{length, take, drop, replicate, length-append, length-drop, drop-o
 use lib.Seq.{take-append-seam}
 use Rattle.lent.proofs.Laws.{cases, never}
 use Rattle.lent.specs.Refusals.{Refusal, numberOf, cutShort, fieldOrder, messageType, fieldForm, emptyText, size, character, noSuchPin, equalHalves, badCounter, badRecord, exhausted, shortBuffer}
-use Rattle.lent.specs.Result.{Result, done, refused, number, require, andThen, bytes, fixed, lend, over, Answered, Written}
+use Rattle.lent.specs.Result.{Result, done, refused, number, require, andThen, bytes, lend, over, Answered, Written}
 use Rattle.lent.specs.declared.answers.Answer.{Answer}
 use Rattle.lent.specs.declared.answers.Block.{Block}
 use Rattle.lent.specs.declared.answers.DoubleBlock.{DoubleBlock}

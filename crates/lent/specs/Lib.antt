@@ -1,5 +1,6 @@
 pub mod Choice
 pub mod Words
+pub mod HalfBytes
 pub mod Characters
 pub mod Texts
 pub mod CardNumbers

@@ -1,6 +1,7 @@
 // What the entries share: the numbers of the refusals, their answers, words and characters in lent memory.
 mod answers;
 mod characters;
+mod half_bytes;
 mod memory;
 mod numbers;
 mod sizes;
@@ -21,6 +22,7 @@ pub use characters::between;
 pub use characters::capitalized;
 pub use characters::is_digit;
 pub use characters::two_digits;
+pub use half_bytes::with_half_bytes;
 pub use memory::append;
 pub use memory::lend;
 pub use memory::lend_word;
@@ -47,5 +49,4 @@ pub use words::bytes_of;
 pub use words::number_of;
 pub use words::right_half;
 pub use words::wide;
-pub use words::with_half_byte;
 pub use words::word_of;

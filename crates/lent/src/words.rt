@@ -28,13 +28,6 @@ fn low_byte(x: u64) -> u8
     (x % 256) as u8
 }
 
-// The word with one more half-byte after it, the low one of h; its highest half-byte is dropped.
-pub fn with_half_byte(x: u64, h: u8) -> u64
-    ensures { λ r. ⌜ r ≡ (x * 16 + h % 16) % 2 ^ 64 ⌝ }
-{
-    (x << 4) + (h % 16) as u64
-}
-
 // The number with one more byte after it.
 fn with_byte(x: u64, b: u8) -> u64
     requires { ⌜ x < 2 ^ 56 ⌝ }

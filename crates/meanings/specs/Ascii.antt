@@ -1,7 +1,7 @@
 -- The characters of a text, as bytes of ASCII.
 use mathlib.Core.List.{List}
 use mathlib.Core.List as list
-use Prim.Native.Char.{Char, code}
+use Prim.Native.Char.{code}
 use Prim.Native.Nat.{ℕ}
 use Prim.Native.String.{String, [], _∷_}
 

@@ -1,5 +1,5 @@
 -- The walk over a message's records, and what is gathered on it.
-use mathlib.Core.Path.{_≡_, refl, sym, ap, _∙_}
+use mathlib.Core.Path.{_≡_, refl, ap}
 use mathlib.Core.List.{List, [], _∷_, _++_, append-assoc, append-nil}
 use Prim.Native.Nat.{ℕ, zero, suc, _+_, _<_, _≤_}
 use native.Mathlib.Omega.{arith}
@@ -11,7 +11,7 @@ use Rattle.lent.proofs.Results.{Refuses}
 use Rattle.message.specs.declared.records.Place.{Place}
 use Rattle.message.specs.declared.records.Place.the-variants.{After}
 use Rattle.message.specs.Fields.{rule, listed}
-use Rattle.message.specs.Records.{Field, bodySize, fieldOf, recordField, records}
+use Rattle.message.specs.Records.{Field, bodySize, recordField, records}
 use Rattle.message.specs.Text.{listedOnly}
 use Rattle.message.specs.Gathered.{spaceBeforeEach, spacedField, spaced}
 

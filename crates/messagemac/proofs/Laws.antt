@@ -1,13 +1,13 @@
 -- What 01 says of short inputs (The job and its edge), and that nothing stands on what comes after the longest message.
 use borrow.Author.Tests.{le-leb, lt-leb, leb-true, leb-false}
-use mathlib.Core.Path.{_≡_, sym, _∙_}
+use mathlib.Core.Path.{_≡_}
 use mathlib.Core.List.{List, [], _∷_, _++_}
 use Prim.Native.Nat.{ℕ, _<_, _≤_}
 use native.Mathlib.Omega.{arith}
 use lib.Dec.{eqb, leb}
-use lib.ListN.{length, take, drop, length-drop, length-take, drop-of-length-le}
+use lib.ListN.{length, take, drop, length-drop, drop-of-length-le}
 use lib.Seq.{take-all, length-take-le}
-use Rattle.lent.specs.Refusals.{cutShort, size}
+use Rattle.lent.specs.Refusals.{size}
 use Rattle.lent.specs.Result.{refused}
 use Rattle.lent.proofs.Laws.{cases}
 use Rattle.lent.proofs.Results.{Refuses}

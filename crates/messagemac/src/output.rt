@@ -1,8 +1,7 @@
 // What the program writes, in a buffer of 184 bytes: a text of at most 166 characters, sixteen digits and two line feeds.
 ghost use mathlib.Core.Path.{_≡_};
 ghost use mathlib.Core.List.{_++_};
-ghost use Prim.Native.Nat.{_≤_};
-ghost use lib.ListN.{length, take};
+ghost use lib.ListN.{length};
 ghost use Rattle.lent.specs.Appending.{Appends};
 ghost use Rattle.keyentry.specs.Hexadecimal.{textOf};
 ghost use Rattle.messagemac.specs.Output;

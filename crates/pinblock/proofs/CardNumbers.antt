@@ -9,12 +9,12 @@ use lib.Seq.{length-take-le, take-at, drop-append-le}
 use Rattle.lent.specs.CardNumbers.{cardSize}
 use Rattle.lent.specs.Choice.{all}
 use Rattle.lent.specs.Characters.{digit, digitValue}
+use Rattle.lent.specs.HalfBytes.{lowHalf, wordOf}
 use Rattle.lent.proofs.Laws.{between-true}
-use Rattle.lent.proofs.Lists.{all-take, all-drop, halfByte, values-half-bytes}
+use Rattle.lent.proofs.HalfBytes.{halfByte, values-half-bytes, low-digits}
+use Rattle.lent.proofs.Lists.{all-take, all-drop}
 use Rattle.pinblock.specs.CardNumber.{rightmostTwelve, cardHalfBytes, cardPart}
-use Rattle.pinblock.specs.Private.{lowHalf, wordOf}
 use Rattle.pinblock.proofs.HalfBytes.{word-lt, word-of}
-use Rattle.pinblock.proofs.Pins.{low-digits}
 
 pub card-long : (card : List ℕ) → cardSize card ≡ true → 13 ≤ length card
 card-long card h = between-true 13 19 (length card) h .0

@@ -2,22 +2,22 @@
 use borrow.Author.Tests.{eqb-true}
 use mathlib.Core.Path.{_≡_, refl, sym, ap, _∙_}
 use mathlib.Core.Bool.{Bool, true}
-use mathlib.Core.List.{List, [], _∷_, _++_, map, map-append, append-assoc}
+use mathlib.Core.List.{List, map, map-append}
 use Prim.Native.Nat.{ℕ, suc, _+_, _-_, _*_, _/_, _%_, _^_, _<_}
 use native.Mathlib.Nat.{mod-eq-of-lt}
 use native.Mathlib.Numerals.{add-one}
 use native.Mathlib.Omega.{arith}
 use lib.Dec.{eqb, lit<}
-use lib.ListN.{length, getD, take, drop, set, length-drop, length-append}
-use lib.Seq.{getD-drop, getD-append-seam, take-suc, take-suc-set}
+use lib.ListN.{length, getD, take, drop, set, length-drop}
+use lib.Seq.{getD-drop, take-suc, take-suc-set}
 use Rattle.lent.specs.Characters.{digitOf}
 use Rattle.lent.specs.Choice.{all}
+use Rattle.lent.specs.HalfBytes.{wordOf}
 use Rattle.lent.specs.Words.{fromBase, toBase}
 use Rattle.lent.proofs.Bases.{to-at, to-length, to-from, from-lt}
 use Rattle.lent.proofs.Laws.{holdsFrom, holds-below}
-use Rattle.lent.proofs.Lists.{elements-below, halfByte}
-use Rattle.lent.proofs.Parts.{from-front}
-use Rattle.pinblock.specs.Private.{lowHalf, wordOf}
+use Rattle.lent.proofs.HalfBytes.{halfByte}
+use Rattle.lent.proofs.Lists.{elements-below}
 
 -- ---- the half-bytes of a word
 
@@ -42,19 +42,6 @@ text-written text x i b h n eb e =
     rw (add-one i, take-suc-set text i (b + 48) (omega arith), take-suc s i 0 more, map-append, e, eb, getD-drop 2 (toBase 16 16 x) i 0)
 
 -- ---- the word of half-bytes
-
--- with one more after them
-one-more : (s : List ℕ) (h : ℕ) → wordOf (s ++ h ∷ []) ≡ (wordOf s * 16 + h) % 2 ^ 64
-unfolding wordOf fromBase
-one-more s h =
-    let more : length (s ++ h ∷ []) ≡ suc (length s) = length-append s (h ∷ []) ∙ add-one (length s) in
-    rw (more, from-front 16 (length s) s (h ∷ []) (omega arith), getD-append-seam s h [] 0) (omega arith)
-
--- with one more character of a text
-pub character-more : (s text : List ℕ) (i : ℕ) → i < length text
-    → wordOf (s ++ map lowHalf (take (i + 1) text)) ≡ (wordOf (s ++ map lowHalf (take i text)) * 16 + getD text i 0 % 16) % 2 ^ 64
-character-more s text i h =
-    rw (add-one i, take-suc text i 0 h, map-append, ← append-assoc) (one-more (s ++ map lowHalf (take i text)) (getD text i 0 % 16))
 
 -- Sixteen half-bytes are those of their word.
 module _ (s : List ℕ) (n : length s ≡ 16) (h : all halfByte s ≡ true) where

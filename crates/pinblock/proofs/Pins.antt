@@ -10,30 +10,19 @@ use lib.ListN.{length, take, replicate, length-append, length-map, length-replic
 use lib.Seq.{take-at}
 use Rattle.lent.specs.Choice.{all}
 use Rattle.lent.specs.Characters.{digit, digitValue, digitOf}
+use Rattle.lent.specs.HalfBytes.{lowHalf, wordOf}
 use Rattle.lent.specs.Words.{fromBase, toBase}
 use Rattle.lent.proofs.Laws.{both-true, between-true}
-use Rattle.lent.proofs.Lists.{all-append, all-replicate, take-replicate, halfByte, values-half-bytes}
+use Rattle.lent.proofs.HalfBytes.{halfByte, values-half-bytes, map-digits, low-digits}
+use Rattle.lent.proofs.Lists.{all-append, all-replicate, take-replicate}
 use Rattle.pinblock.specs.Pin.{pinSize, permitted, pinHalfBytes, pinBlock}
-use Rattle.pinblock.specs.Private.{lowHalf, wordOf}
 use Rattle.pinblock.specs.Reading.{candidate}
 use Rattle.pinblock.proofs.HalfBytes.{word-lt, word-of, half-bytes-of}
 
 -- ---- digits and their values
 
--- two changes that agree on digits
-map-digits : (f g : ℕ → ℕ) → ((x : ℕ) → 48 ≤ x → x ≤ 57 → f x ≡ g x) → (s : List ℕ) → all digit s ≡ true → map f s ≡ map g s
-map-digits f g h [] e = refl
-map-digits f g h (x ∷ s) e =
-    let b = both-true (digit x) (all digit s) e in
-    let k = between-true 48 57 x (b .0) in
-    rw (h x (k .0) (k .1), map-digits f g h s (b .1))
-
 digit-of-value : (s : List ℕ) → all digit s ≡ true → map digitOf (map digitValue s) ≡ s
 digit-of-value s e = map-map digitOf digitValue s ∙ map-digits (λ x. x - 48 + 48) (λ x. x) (λ x h k. omega arith) s e ∙ map-id s
-
--- a digit's low half-byte is its value
-pub low-digits : (s : List ℕ) → all digit s ≡ true → map lowHalf s ≡ map digitValue s
-low-digits = map-digits lowHalf digitValue (λ x h k. omega arith)
 
 low-fill : (n : ℕ) → map lowHalf (replicate n 15) ≡ replicate n 15
 low-fill zero = refl

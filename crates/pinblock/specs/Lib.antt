@@ -3,4 +3,3 @@ pub mod CardNumber
 pub mod Reading
 pub mod Entries
 pub mod ReadsBack
-pub mod Private

@@ -1,5 +1,4 @@
 // Card numbers and their part of a PIN's block (01, PIN blocks; ISO 9564-1, format 0).
-use crate::half_bytes::with_half_bytes;
 ghost use mathlib.Core.Path.{_≡_};
 ghost use mathlib.Core.Bool.{true};
 ghost use Rattle.lent.specs.CardNumbers.{cardSize};
@@ -21,5 +20,5 @@ pub(crate) fn card_part(card: &[u8]) -> u64
 {
     let start = card.len() - 13;
     let end = start + 12;
-    with_half_bytes(0, &card[start..end])
+    lent::with_half_bytes(0, &card[start..end])
 }

@@ -1,5 +1,4 @@
 // PINs and their blocks (01, PIN blocks; source document 000, figure 2).
-use crate::half_bytes::with_half_bytes;
 ghost use mathlib.Core.Path.{_≡_};
 ghost use mathlib.Core.Bool.{true};
 ghost use Rattle.pinblock.specs.Pin.{pinSize, permitted, pinBlock};
@@ -16,8 +15,8 @@ pub(crate) fn pin_block(pin: &[u8]) -> u64
     requires { ⌜ permitted (now pin) ≡ true ⌝ }
     ensures { λ r. ⌜ r ≡ pinBlock (now (pin .entry)) ⌝ }
 {
-    let start = with_half_bytes(pin.len() as u64, pin);
+    let start = lent::with_half_bytes(pin.len() as u64, pin);
     let fill = [15u8; 10];
     let rest = 14 - pin.len();
-    with_half_bytes(start, &fill[..rest])
+    lent::with_half_bytes(start, &fill[..rest])
 }

@@ -105,12 +105,13 @@ exhausted-byte-back x h = by-cases (ℕ-discrete x 1) (λ e. rw (eq-eqb x 1 e) (
 -- ---- the parts of 187 bytes
 
 -- where each stands
-pub parts-at : (s : List ℕ)
-    → cut partSizes s ≡ take 168 s ∷ take 4 (drop 168 s) ∷ take 10 (drop 172 s) ∷ take 4 (drop 182 s) ∷ take 1 (drop 186 s) ∷ []
+abbrev pub partsAt : List ℕ → List (List ℕ)
+partsAt s = take 168 s ∷ take 4 (drop 168 s) ∷ take 10 (drop 172 s) ∷ take 4 (drop 182 s) ∷ take 1 (drop 186 s) ∷ []
+
+pub parts-at : (s : List ℕ) → cut partSizes s ≡ partsAt s
 parts-at s = rw (drop-drop 4 168 s, drop-drop 10 172 s, drop-drop 4 182 s)
 
-pub terminal-parts : (s : List ℕ)
-    → terminalOf s ≡ terminalIn (take 168 s ∷ take 4 (drop 168 s) ∷ take 10 (drop 172 s) ∷ take 4 (drop 182 s) ∷ take 1 (drop 186 s) ∷ [])
+pub terminal-parts : (s : List ℕ) → terminalOf s ≡ terminalIn (partsAt s)
 unfolding terminalOf
 terminal-parts s = ap terminalIn (parts-at s)
 

@@ -3,13 +3,13 @@
 use mathlib.Core.Path.{_≡_, refl, sym, ap, _∙_}
 use mathlib.Core.Bool.{Bool, true, false, false≢true}
 use mathlib.Core.Logic.{_⊎_, inl, inr, _↔_, Dec·and}
-use mathlib.Core.List.{List, [], _∷_, map}
+use mathlib.Core.List.{List, [], map}
 use Prim.Native.Nat.{ℕ, _^_, _≤_, _<_}
 use native.Mathlib.Decide.{decLt, decLe, ℕ-discrete, map-dec}
 use native.Mathlib.Omega.{arith}
 use lib.Dec.{eqb, lit<}
-use lib.ListN.{length, getD, take, drop, replicate, length-drop, drop-of-length-le}
-use lib.Seq.{drop-cons, drop-drop, length-take-le}
+use lib.ListN.{length, getD, take, drop, replicate, length-drop}
+use lib.Seq.{length-take-le}
 use Rattle.lent.specs.Choice.{pick}
 use Rattle.lent.specs.Refusals.{numberOf}
 use Rattle.lent.specs.Refusals as refusals
@@ -23,7 +23,7 @@ use Rattle.terminal.specs.Promises as promises
 use Rattle.terminal.specs.declared.state.Terminal.{Terminal}
 use Rattle.terminal.specs.declared.calls.NextKey.{NextKey}
 use Rattle.terminal.proofs.Laws.{valid?, on-refused}
-use Rattle.recordbytes.specs.RecordBytes.{partSizes, recordSize, exhaustedByte, recordParts, recordBytes, Fits, registersOf, terminalIn, terminalOf, ValidBytes}
+use Rattle.recordbytes.specs.RecordBytes.{partSizes, recordSize, exhaustedByte, recordParts, recordBytes, Fits, terminalIn, terminalOf, ValidBytes}
 use Rattle.recordbytes.specs.Parts.{joined, cut, total}
 use Rattle.recordbytes.specs.Calls.{CallNumber, wrong-size, invalid, exhausted, short, given, Called, nextKey}
 use Rattle.recordbytes.proofs.Bytes.{parts-at, terminal-parts, last-part, number-back, digits-take, bytes-back, registers-back, register-bytes-back, registers-length, registers-lt, number-lt, part-sizes, exhausted-back, exhausted-le, exhausted-byte-back}

@@ -44,7 +44,7 @@ returns-3 c =
     (character, refl, simp (card-sized (d .before .before), in-range (d .before), sym (d .all-digits .ensures) ∙ not-true _ (c .before .if3 .taken)))
 
 derivation-word-requires : tie.Need-derivation-word-requires
-derivation-word-requires c κs = (digits c, omega arith)
+derivation-word-requires c κs = digits c
 
 returns-4 : tie.Need-returns-4
 unfolding derivationData

@@ -1,7 +1,7 @@
 -- `card_key` meets its contract.
 use borrow.Author.Needs.{needs}
 use borrow.Author.Tests.{eq-eqb, ne-eqb}
-use mathlib.Core.Path.{refl, _∙_}
+use mathlib.Core.Path.{refl}
 use Rattle.lent.specs.Refusals.{size}
 use Rattle.lent.proofs.Results.{answered-done, answered-refused, refused-double-block}
 use Rattle.card.specs.Entries.{derivationData, cardKey}

@@ -1,7 +1,7 @@
 -- `key_entry` meets its contract.
 use borrow.Author.Needs.{needs}
 use borrow.Author.Tests.{not-true, not-false}
-use mathlib.Core.Path.{_≡_, refl, sym, _∙_}
+use mathlib.Core.Path.{refl, sym, _∙_}
 use Rattle.lent.specs.Refusals.{size}
 use Rattle.lent.proofs.Results.{refused-answer}
 use Rattle.keyentry.specs.KeyEntry.{keyEntry}

@@ -1,6 +1,6 @@
 -- `append` meets its contract.
 use borrow.Author.Needs.{needs}
-use mathlib.Core.Path.{_≡_, refl, _∙_}
+use mathlib.Core.Path.{refl, _∙_}
 use native.Mathlib.Omega.{arith}
 use Rattle.lent.proofs.Appending.{front-length, no-room, written-appended, copied-after}
 use Rattle.lent.proofs.Results.{refused-lent}

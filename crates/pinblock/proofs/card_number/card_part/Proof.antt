@@ -4,7 +4,7 @@ use mathlib.Core.Path.{refl, _∙_}
 use native.Mathlib.Omega.{arith}
 use lib.ListN.{replicate}
 use Rattle.lent.specs.Words.{fromBase}
-use Rattle.pinblock.specs.Private.{wordOf}
+use Rattle.lent.specs.HalfBytes.{wordOf}
 use Rattle.pinblock.proofs.CardNumbers.{card-long, card-word}
 use Rattle.pinblock.proofs.card_number.card_part.Statement.{statement}
 use Rattle.pinblock.proofs.card_number.card_part.Tie as tie

@@ -1,8 +1,8 @@
--- Only contracts of private functions cite these.
+-- Characters put together as half-bytes of a word: two digits a byte.
 use mathlib.Core.List.{List}
 use Prim.Native.Nat.{ℕ, _%_, _^_}
 use lib.ListN.{length}
 use Rattle.lent.specs.Words.{fromBase}
 
 -- the low half-byte of a character: a digit's is its value
 abbrev pub lowHalf : ℕ → ℕ

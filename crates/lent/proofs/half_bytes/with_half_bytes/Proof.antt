@@ -1,4 +1,4 @@
--- `pinblock::half_bytes::with_half_bytes` meets its contract. The loop's invariant: the first i characters' half-bytes are put after the first ones.
+-- `with_half_bytes` meets its contract. The loop's invariant: the first i characters' half-bytes are put after the first ones.
 use borrow.Author.Needs.{needs}
 use mathlib.Core.Path.{_≡_}
 use mathlib.Core.List.{List, _++_, map, append-nil}
@@ -6,10 +6,10 @@ use Prim.Native.Nat.{ℕ, _≤_, _-_}
 use native.Mathlib.Omega.{arith}
 use lib.ListN.{length, take}
 use lib.Seq.{take-length}
-use Rattle.pinblock.specs.Private.{lowHalf, wordOf}
-use Rattle.pinblock.proofs.HalfBytes.{character-more}
-use Rattle.pinblock.proofs.half_bytes.with_half_bytes.Statement.{statement}
-use Rattle.pinblock.proofs.half_bytes.with_half_bytes.Tie as tie
+use Rattle.lent.specs.HalfBytes.{lowHalf, wordOf}
+use Rattle.lent.proofs.HalfBytes.{character-more}
+use Rattle.lent.proofs.half_bytes.with_half_bytes.Statement.{statement}
+use Rattle.lent.proofs.half_bytes.with_half_bytes.Tie as tie
 
 abbrev Inv-loop : tie.InvT-loop
 Inv-loop x text r₀ i₀ r i = (i ≤ length text) × ((first : List ℕ) → x ≡ wordOf first → r ≡ wordOf (first ++ map lowHalf (take i text)))
