@@ -17,7 +17,7 @@ use Rattle.lent.proofs.Bases.{Digits, to-length, to-from, from-to, from-lt}
 use Rattle.terminal.specs.declared.state.Terminal.{Terminal}
 use Rattle.recordbytes.specs.RecordBytes.{partSizes, recordSize, registerBytes, registersOf, exhaustedByte, recordParts, recordBytes, terminalIn, terminalOf}
 use Rattle.recordbytes.specs.Parts.{joined, cut, total}
-use Rattle.recordbytes.proofs.Cutting.{joined-length, Appends, all-appended}
+use Rattle.recordbytes.proofs.Cutting.{joined-length, EachAppends, all-appends}
 
 -- ---- numbers
 
@@ -129,10 +129,10 @@ part-sizes t k s =
 
 -- parts written one after the other fill 187 bytes
 pub record-put : (t : Terminal) (before : List ℕ) {after : List ℕ} {r : ℕ} → length (t .keys) ≡ 21 → length (t .serial) ≡ 10 → length before ≡ recordSize
-    → Appends (recordParts t) before after 0 r → after ≡ recordBytes t
+    → EachAppends (recordParts t) before after 0 r → after ≡ recordBytes t
 unfolding recordBytes
 record-put t before k s l all =
     let total-size : total (map length (recordParts t)) ≡ 187 = ap total (part-sizes t k s) in
     let size : length (joined (recordParts t)) ≡ 187 = joined-length (recordParts t) ∙ total-size in
-    all-appended (omega arith) all .memory
+    all-appends all (omega arith) .memory
     ∙ rw (zero-add (length (joined (recordParts t))), drop-of-length-le before {i = length (joined (recordParts t))} (omega arith), append-nil)

@@ -1,17 +1,15 @@
 // The terminal's record as 187 bytes, part by part.
 use terminal::Terminal;
 ghost use mathlib.Core.Path.{_≡_};
-ghost use Prim.Native.Nat.{_+_, _≤_};
 ghost use lib.ListN.{length};
-ghost use Rattle.lent.specs.Appending.{Appended};
+ghost use Rattle.lent.specs.Appending.{Appends};
 ghost use Rattle.recordbytes.specs.RecordBytes.{recordSize, recordBytes, numberBytes, registerBytes, registersOf, terminalOf};
 
 // ---- writing
 
 // Writes a part after the first n bytes, and gives how many there are then.
 fn put(bytes: &mut [u8], n: usize, part: &[u8]) -> usize
-    requires { ⌜ n + length (now part) ≤ length (now bytes) ⌝ }
-    ensures { λ r. ⌜ Appended (now (part .entry)) (now (bytes .entry)) (now (bytes .exit)) n r ⌝ }
+    ensures { λ r. ⌜ Appends (now (part .entry)) (now (bytes .entry)) (now (bytes .exit)) n r ⌝ }
 {
     let written = lent::append(bytes, n, part);
     written.length
@@ -19,8 +17,7 @@ fn put(bytes: &mut [u8], n: usize, part: &[u8]) -> usize
 
 // Writes the registers, 8 bytes each.
 fn put_registers(keys: [u64; 21], bytes: &mut [u8]) -> usize
-    requires { ⌜ length (now bytes) ≡ recordSize ⌝ }
-    ensures { λ r. ⌜ Appended (registerBytes keys) (now (bytes .entry)) (now (bytes .exit)) 0 r × (r ≡ 168) ⌝ }
+    ensures { λ r. ⌜ Appends (registerBytes keys) (now (bytes .entry)) (now (bytes .exit)) 0 r ⌝ }
 {
     let mut n: usize = 0;
     let mut i: usize = 0;
@@ -34,8 +31,7 @@ fn put_registers(keys: [u64; 21], bytes: &mut [u8]) -> usize
 
 // Writes a number of 32 bits, 4 bytes, after the first n bytes.
 fn put_number(bytes: &mut [u8], n: usize, x: u32) -> usize
-    requires { ⌜ n + 4 ≤ length (now bytes) ⌝ }
-    ensures { λ r. ⌜ Appended (numberBytes x) (now (bytes .entry)) (now (bytes .exit)) n r × (r ≡ n + 4) ⌝ }
+    ensures { λ r. ⌜ Appends (numberBytes x) (now (bytes .entry)) (now (bytes .exit)) n r ⌝ }
 {
     let word = lent::bytes_of(x as u64);
     put(bytes, n, &word[4..])

@@ -5,9 +5,7 @@ use Rattle.recordbytes.proofs.record.put.Statement.{statement}
 use Rattle.recordbytes.proofs.record.put.Tie as tie
 
 returns : tie.Need-returns
-returns c =
-    let a = c .before .before .before .before .before .before in
-    appended (a .args .part .now) (a .args .bytes .now) (a .args .n) (a .pre) (c .before .before .append .ensures)
+returns c room = appended _ _ _ room (c .before .before .append .ensures)
 
 pub put-spec : {M : Type 1} → statement M
 put-spec = tie.close (tie.spec (λ c κs. search needs) (λ c. search needs) returns)

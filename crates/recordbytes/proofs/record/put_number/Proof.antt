@@ -12,8 +12,7 @@ returns : tie.Need-returns
 unfolding toBase
 returns c =
     let word = c .before .before .before .before .before .before .bytes-of .ensures in
-    let p = rw (ap (λ (w : List ℕ). take 4 (drop 4 w)) word) at (c .before .before .put .ensures) in
-    (p, p .end)
+    rw (ap (λ (w : List ℕ). take 4 (drop 4 w)) word) at (c .before .before .put .ensures)
 
 pub put-number-spec : {M : Type 1} → statement M
 put-number-spec =
