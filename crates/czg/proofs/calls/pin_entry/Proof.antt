@@ -6,34 +6,6 @@ use Rattle.czg.proofs.Bounds.{past, exactly}
 use Rattle.czg.proofs.calls.pin_entry.Statement.{statement}
 use Rattle.czg.proofs.calls.pin_entry.Tie as tie
 
-returns : tie.Need-returns
-unfolding answerAt answers
-returns c = rw (c .before .before .before .before .match .keys1) (c .before .before .czg-pin-make .ensures)
-
-returns-2 : tie.Need-returns-2
-unfolding answerAt answers
-returns-2 c = rw (c .before .before .before .before .match .keys2) (c .before .before .czg-pin-make-with-card .ensures)
-
-returns-3 : tie.Need-returns-3
-unfolding answerAt answers
-returns-3 c = rw (c .before .before .before .before .match .keys3) (c .before .before .czg-pin-read .ensures)
-
-returns-4 : tie.Need-returns-4
-unfolding answerAt answers
-returns-4 c = rw (c .before .before .before .before .match .keys4) (c .before .before .czg-pin-read-with-card .ensures)
-
-returns-5 : tie.Need-returns-5
-unfolding answerAt answers
-returns-5 c = rw (c .before .before .before .before .match .keys5) (c .before .before .czg-pin-encrypt .ensures)
-
-returns-6 : tie.Need-returns-6
-unfolding answerAt answers
-returns-6 c = rw (c .before .before .before .before .match .keys6) (c .before .before .czg-pin-encrypt-with-card .ensures)
-
-returns-7 : tie.Need-returns-7
-unfolding answerAt answers
-returns-7 c = rw (c .before .before .before .before .match .keys7) (c .before .before .czg-pin-decrypt .ensures)
-
 returns-8 : tie.Need-returns-8
 unfolding answerAt answers
 returns-8 c =
@@ -43,10 +15,15 @@ returns-8 c =
     rw e (c .before .before .czg-pin-decrypt-with-card .ensures)
 
 pub pin-entry-spec : {M : Type 1} → statement M
+unfolding answerAt answers
 pin-entry-spec =
     tie.close
-    (tie.spec (λ c κs. search needs) (λ c κs. search needs) (λ c κs. search needs) (λ c κs. search needs)
-    (λ c κs. search needs) (λ c κs. search needs) (λ c κs. search needs) (λ c κs. search needs) (λ c. search needs)
-    returns (λ c. search needs) returns-2 (λ c. search needs) returns-3 (λ c. search needs) returns-4
-    (λ c. search needs) returns-5 (λ c. search needs) returns-6 (λ c. search needs) returns-7 (λ c. search needs)
-    returns-8)
+    (tie.spec (λ c κs. search needs) (λ c κs. search needs) (λ c κs. search needs) (λ c κs. search needs) (λ c κs. search needs)
+    (λ c κs. search needs) (λ c κs. search needs) (λ c κs. search needs) (λ c. search needs) (λ c. rw (c .before .before .before .before .match .keys1) (c .before .before .czg-pin-make .ensures))
+    (λ c. search needs) (λ c. rw (c .before .before .before .before .match .keys2) (c .before .before .czg-pin-make-with-card .ensures))
+    (λ c. search needs) (λ c. rw (c .before .before .before .before .match .keys3) (c .before .before .czg-pin-read .ensures))
+    (λ c. search needs) (λ c. rw (c .before .before .before .before .match .keys4) (c .before .before .czg-pin-read-with-card .ensures))
+    (λ c. search needs) (λ c. rw (c .before .before .before .before .match .keys5) (c .before .before .czg-pin-encrypt .ensures))
+    (λ c. search needs) (λ c. rw (c .before .before .before .before .match .keys6) (c .before .before .czg-pin-encrypt-with-card .ensures))
+    (λ c. search needs) (λ c. rw (c .before .before .before .before .match .keys7) (c .before .before .czg-pin-decrypt .ensures))
+    (λ c. search needs) returns-8)

@@ -6,30 +6,6 @@ use Rattle.czg.specs.Calls.{answers, answerAt}
 use Rattle.czg.proofs.calls.text_entry.Statement.{statement}
 use Rattle.czg.proofs.calls.text_entry.Tie as tie
 
-returns : tie.Need-returns
-unfolding answerAt answers
-returns c = rw (c .before .before .before .before .match .keys1) (c .before .before .czg-encrypt .ensures)
-
-returns-2 : tie.Need-returns-2
-unfolding answerAt answers
-returns-2 c = rw (c .before .before .before .before .match .keys2) (c .before .before .czg-decrypt .ensures)
-
-returns-3 : tie.Need-returns-3
-unfolding answerAt answers
-returns-3 c = rw (c .before .before .before .before .match .keys3) (c .before .before .czg-key-entry .ensures)
-
-returns-4 : tie.Need-returns-4
-unfolding answerAt answers
-returns-4 c = rw (c .before .before .before .before .match .keys4) (c .before .before .czg-clean .ensures)
-
-returns-5 : tie.Need-returns-5
-unfolding answerAt answers
-returns-5 c = rw (c .before .before .before .before .match .keys5) (c .before .before .czg-message-text .ensures)
-
-returns-6 : tie.Need-returns-6
-unfolding answerAt answers
-returns-6 c = rw (c .before .before .before .before .match .keys6) (c .before .before .czg-text-mac .ensures)
-
 returns-7 : tie.Need-returns-7
 unfolding answerAt answers
 returns-7 c =
@@ -38,9 +14,14 @@ returns-7 c =
     rw e (c .before .before .czg-message-mac .ensures)
 
 pub text-entry-spec : {M : Type 1} → statement M
+unfolding answerAt answers
 text-entry-spec =
     tie.close
-    (tie.spec (λ c κs. search needs) (λ c κs. search needs) (λ c κs. search needs) (λ c κs. search needs)
-    (λ c κs. search needs) (λ c κs. search needs) (λ c κs. search needs) (λ c. search needs) returns
-    (λ c. search needs) returns-2 (λ c. search needs) returns-3 (λ c. search needs) returns-4 (λ c. search needs)
-    returns-5 (λ c. search needs) returns-6 (λ c. search needs) returns-7)
+    (tie.spec (λ c κs. search needs) (λ c κs. search needs) (λ c κs. search needs) (λ c κs. search needs) (λ c κs. search needs)
+    (λ c κs. search needs) (λ c κs. search needs) (λ c. search needs) (λ c. rw (c .before .before .before .before .match .keys1) (c .before .before .czg-encrypt .ensures))
+    (λ c. search needs) (λ c. rw (c .before .before .before .before .match .keys2) (c .before .before .czg-decrypt .ensures))
+    (λ c. search needs) (λ c. rw (c .before .before .before .before .match .keys3) (c .before .before .czg-key-entry .ensures))
+    (λ c. search needs) (λ c. rw (c .before .before .before .before .match .keys4) (c .before .before .czg-clean .ensures))
+    (λ c. search needs) (λ c. rw (c .before .before .before .before .match .keys5) (c .before .before .czg-message-text .ensures))
+    (λ c. search needs) (λ c. rw (c .before .before .before .before .match .keys6) (c .before .before .czg-text-mac .ensures))
+    (λ c. search needs) returns-7)
