@@ -4,7 +4,7 @@ use crate::answers::lend_double_block;
 ghost use Rattle.lent.specs.Result.{Written};
 ghost use Rattle.card.specs.Entries;
 
-// Y of a card number and sequence, 8 bytes: 6, 7, 13.
+// Y of a card number and sequence, 8 bytes. Refuses with 6, 7, 13.
 #[no_mangle]
 pub extern "C" fn czg_derivation_data(card: &[u8], sequence: u32, out: &mut [u8]) -> lent::Answer
     ensures { λ r. ⌜ Written (Entries.derivationData (now (card .entry)) sequence) (now (out .entry)) (r .number) (r .length) (now (out .exit)) ⌝ }
@@ -12,7 +12,7 @@ pub extern "C" fn czg_derivation_data(card: &[u8], sequence: u32, out: &mut [u8]
     lend_block(card::derivation_data(card, sequence), out)
 }
 
-// The card key, 16 bytes: 6, 7, 13.
+// The card key, 16 bytes. Refuses with 6, 7, 13.
 #[no_mangle]
 pub extern "C" fn czg_card_key(
     master: &[u8],
@@ -25,7 +25,7 @@ pub extern "C" fn czg_card_key(
     lend_double_block(card::card_key(master, card, sequence), out)
 }
 
-// The session key of a transaction counter, 16 bytes: 6, 13.
+// The session key of a transaction counter, 16 bytes. Refuses with 6, 13.
 #[no_mangle]
 pub extern "C" fn czg_session_key(card_key: &[u8], counter: u16, out: &mut [u8]) -> lent::Answer
     ensures { λ r. ⌜ Written (Entries.sessionKey (now («card_key» .entry)) counter) (now (out .entry)) (r .number) (r .length) (now (out .exit)) ⌝ }
@@ -33,7 +33,7 @@ pub extern "C" fn czg_session_key(card_key: &[u8], counter: u16, out: &mut [u8])
     lend_double_block(card::session_key(card_key, counter), out)
 }
 
-// The ARQC of card data, 8 bytes: 6, 13.
+// The ARQC of card data, 8 bytes. Refuses with 6, 13.
 #[no_mangle]
 pub extern "C" fn czg_arqc(session_key: &[u8], data: &[u8], out: &mut [u8]) -> lent::Answer
     ensures { λ r. ⌜ Written (Entries.arqc (now («session_key» .entry)) (now («data» .entry))) (now (out .entry)) (r .number) (r .length) (now (out .exit)) ⌝ }
@@ -41,7 +41,7 @@ pub extern "C" fn czg_arqc(session_key: &[u8], data: &[u8], out: &mut [u8]) -> l
     lend_block(card::arqc(session_key, data), out)
 }
 
-// The ARPC of an ARQC and a code, 8 bytes: 6, 13.
+// The ARPC of an ARQC and a code, 8 bytes. Refuses with 6, 13.
 #[no_mangle]
 pub extern "C" fn czg_arpc(
     session_key: &[u8],

@@ -3,7 +3,7 @@ use crate::answers::lend_block;
 ghost use Rattle.lent.specs.Result.{Written};
 ghost use Rattle.keyed.specs.Keyed.{encryptBlock, decryptBlock};
 
-// Encrypts a block, 8 bytes: 6, 13.
+// Encrypts a block, 8 bytes. Refuses with 6, 13.
 #[no_mangle]
 pub extern "C" fn czg_encrypt(key: &[u8], block: &[u8], out: &mut [u8]) -> lent::Answer
     ensures { λ r. ⌜ Written (encryptBlock (now (key .entry)) (now (block .entry))) (now (out .entry)) (r .number) (r .length) (now (out .exit)) ⌝ }
@@ -11,7 +11,7 @@ pub extern "C" fn czg_encrypt(key: &[u8], block: &[u8], out: &mut [u8]) -> lent:
     lend_block(keyed::encrypt_block(key, block), out)
 }
 
-// Decrypts a block, 8 bytes: 6, 13.
+// Decrypts a block, 8 bytes. Refuses with 6, 13.
 #[no_mangle]
 pub extern "C" fn czg_decrypt(key: &[u8], block: &[u8], out: &mut [u8]) -> lent::Answer
     ensures { λ r. ⌜ Written (decryptBlock (now (key .entry)) (now (block .entry))) (now (out .entry)) (r .number) (r .length) (now (out .exit)) ⌝ }

@@ -7,7 +7,7 @@ ghost use Rattle.cleaning.specs.Cleaning.{cleanText};
 ghost use Rattle.message.specs.Text.{messageText};
 ghost use Rattle.mac.specs.Mac.{textMac, messageMac};
 
-// Enters a key of `wanted` bytes from hexadecimal text: 6, 7, 13.
+// Enters a key of `wanted` bytes from hexadecimal text. Refuses with 6, 7, 13.
 #[no_mangle]
 pub extern "C" fn czg_key_entry(text: &[u8], wanted: usize, out: &mut [u8]) -> lent::Answer
     ensures { λ r. ⌜ Written (keyEntry (now (text .entry)) (record { 0 = wanted })) (now (out .entry)) (r .number) (r .length) (now (out .exit)) ⌝ }
@@ -20,7 +20,7 @@ pub extern "C" fn czg_key_entry(text: &[u8], wanted: usize, out: &mut [u8]) -> l
     }
 }
 
-// Cleans a text: 6, 13.
+// Cleans a text. Refuses with 6, 13.
 #[no_mangle]
 pub extern "C" fn czg_clean(text: &[u8], out: &mut [u8]) -> lent::Answer
     ensures { λ r. ⌜ Written (cleanText (now (text .entry))) (now (out .entry)) (r .number) (r .length) (now (out .exit)) ⌝ }
@@ -28,7 +28,7 @@ pub extern "C" fn czg_clean(text: &[u8], out: &mut [u8]) -> lent::Answer
     cleaning::clean(text, out)
 }
 
-// Writes a message's MAC text: 6, then record by record 1, 2, 4, 3, then 13.
+// Writes a message's MAC text. Refuses with 6, then record by record with 1, 2, 4, 3, then with 13.
 #[no_mangle]
 pub extern "C" fn czg_message_text(message: &[u8], out: &mut [u8]) -> lent::Answer
     ensures { λ r. ⌜ Written (messageText (now (message .entry))) (now (out .entry)) (r .number) (r .length) (now (out .exit)) ⌝ }
@@ -36,7 +36,7 @@ pub extern "C" fn czg_message_text(message: &[u8], out: &mut [u8]) -> lent::Answ
     message::message_text(message, out)
 }
 
-// The MAC of free text, 8 bytes: 6, 5, 13.
+// The MAC of free text, 8 bytes. Refuses with 6, 5, 13.
 #[no_mangle]
 pub extern "C" fn czg_text_mac(key: &[u8], text: &[u8], out: &mut [u8]) -> lent::Answer
     ensures { λ r. ⌜ Written (textMac (now (key .entry)) (now (text .entry))) (now (out .entry)) (r .number) (r .length) (now (out .exit)) ⌝ }
@@ -44,7 +44,7 @@ pub extern "C" fn czg_text_mac(key: &[u8], text: &[u8], out: &mut [u8]) -> lent:
     lend_block(mac::text_mac(key, text), out)
 }
 
-// The MAC of a message, 8 bytes: 6, then record by record 1, 2, 4, 3, then 13.
+// The MAC of a message, 8 bytes. Refuses with 6, then record by record with 1, 2, 4, 3, then with 13.
 #[no_mangle]
 pub extern "C" fn czg_message_mac(key: &[u8], message: &[u8], out: &mut [u8]) -> lent::Answer
     ensures { λ r. ⌜ Written (messageMac (now (key .entry)) (now (message .entry))) (now (out .entry)) (r .number) (r .length) (now (out .exit)) ⌝ }
@@ -52,7 +52,7 @@ pub extern "C" fn czg_message_mac(key: &[u8], message: &[u8], out: &mut [u8]) ->
     lend_block(mac::message_mac(key, message), out)
 }
 
-// Writes what a number means, as text: 6, 13.
+// Writes what a number means, as text. Refuses with 6, 13.
 #[no_mangle]
 pub extern "C" fn czg_meaning(number: u32, out: &mut [u8]) -> lent::Answer
     ensures { λ r. ⌜ Written (Meanings.meaning number) (now (out .entry)) (r .number) (r .length) (now (out .exit)) ⌝ }

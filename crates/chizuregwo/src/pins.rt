@@ -3,7 +3,7 @@ use crate::answers::lend_block;
 ghost use Rattle.lent.specs.Result.{Written};
 ghost use Rattle.pinblock.specs.Entries;
 
-// The block of a PIN, 8 bytes: 6, 7, 13.
+// The block of a PIN, 8 bytes. Refuses with 6, 7, 13.
 #[no_mangle]
 pub extern "C" fn czg_pin_make(pin: &[u8], out: &mut [u8]) -> lent::Answer
     ensures { λ r. ⌜ Written (Entries.make (now (pin .entry))) (now (out .entry)) (r .number) (r .length) (now (out .exit)) ⌝ }
@@ -11,7 +11,7 @@ pub extern "C" fn czg_pin_make(pin: &[u8], out: &mut [u8]) -> lent::Answer
     lend_block(pinblock::make(pin), out)
 }
 
-// The block of a PIN with a card number, 8 bytes: 6, 7, 13.
+// The block of a PIN with a card number, 8 bytes. Refuses with 6, 7, 13.
 #[no_mangle]
 pub extern "C" fn czg_pin_make_with_card(pin: &[u8], card: &[u8], out: &mut [u8]) -> lent::Answer
     ensures { λ r. ⌜ Written (Entries.makeWithCard (now (pin .entry)) (now (card .entry))) (now (out .entry)) (r .number) (r .length) (now (out .exit)) ⌝ }
@@ -19,7 +19,7 @@ pub extern "C" fn czg_pin_make_with_card(pin: &[u8], card: &[u8], out: &mut [u8]
     lend_block(pinblock::make_with_card(pin, card), out)
 }
 
-// The PIN of a block, its digits: 6, 8, 13.
+// The PIN of a block, its digits. Refuses with 6, 8, 13.
 #[no_mangle]
 pub extern "C" fn czg_pin_read(block: &[u8], out: &mut [u8]) -> lent::Answer
     ensures { λ r. ⌜ Written (Entries.read (now (block .entry))) (now (out .entry)) (r .number) (r .length) (now (out .exit)) ⌝ }
@@ -27,7 +27,7 @@ pub extern "C" fn czg_pin_read(block: &[u8], out: &mut [u8]) -> lent::Answer
     pinblock::read(block, out)
 }
 
-// The PIN of a block with a card number, its digits: 6, 7, 8, 13.
+// The PIN of a block with a card number, its digits. Refuses with 6, 7, 8, 13.
 #[no_mangle]
 pub extern "C" fn czg_pin_read_with_card(block: &[u8], card: &[u8], out: &mut [u8]) -> lent::Answer
     ensures { λ r. ⌜ Written (Entries.readWithCard (now (block .entry)) (now (card .entry))) (now (out .entry)) (r .number) (r .length) (now (out .exit)) ⌝ }
@@ -35,7 +35,7 @@ pub extern "C" fn czg_pin_read_with_card(block: &[u8], card: &[u8], out: &mut [u
     pinblock::read_with_card(block, card, out)
 }
 
-// The encrypted block of a PIN, 8 bytes: 6, 7, 13.
+// The encrypted block of a PIN, 8 bytes. Refuses with 6, 7, 13.
 #[no_mangle]
 pub extern "C" fn czg_pin_encrypt(key: &[u8], pin: &[u8], out: &mut [u8]) -> lent::Answer
     ensures { λ r. ⌜ Written (Entries.encrypt (now (key .entry)) (now (pin .entry))) (now (out .entry)) (r .number) (r .length) (now (out .exit)) ⌝ }
@@ -43,7 +43,7 @@ pub extern "C" fn czg_pin_encrypt(key: &[u8], pin: &[u8], out: &mut [u8]) -> len
     lend_block(pinblock::encrypt(key, pin), out)
 }
 
-// The encrypted block of a PIN with a card number, 8 bytes: 6, 7, 13.
+// The encrypted block of a PIN with a card number, 8 bytes. Refuses with 6, 7, 13.
 #[no_mangle]
 pub extern "C" fn czg_pin_encrypt_with_card(
     key: &[u8],
@@ -56,7 +56,7 @@ pub extern "C" fn czg_pin_encrypt_with_card(
     lend_block(pinblock::encrypt_with_card(key, pin, card), out)
 }
 
-// The PIN of an encrypted block, its digits: 6, 8, 13.
+// The PIN of an encrypted block, its digits. Refuses with 6, 8, 13.
 #[no_mangle]
 pub extern "C" fn czg_pin_decrypt(key: &[u8], block: &[u8], out: &mut [u8]) -> lent::Answer
     ensures { λ r. ⌜ Written (Entries.decrypt (now (key .entry)) (now (block .entry))) (now (out .entry)) (r .number) (r .length) (now (out .exit)) ⌝ }
@@ -64,7 +64,7 @@ pub extern "C" fn czg_pin_decrypt(key: &[u8], block: &[u8], out: &mut [u8]) -> l
     pinblock::decrypt(key, block, out)
 }
 
-// The PIN of an encrypted block with a card number, its digits: 6, 7, 8, 13.
+// The PIN of an encrypted block with a card number, its digits. Refuses with 6, 7, 8, 13.
 #[no_mangle]
 pub extern "C" fn czg_pin_decrypt_with_card(
     key: &[u8],

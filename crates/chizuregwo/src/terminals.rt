@@ -2,7 +2,7 @@
 ghost use Rattle.lent.specs.Result.{Written};
 ghost use Rattle.recordbytes.specs.Calls.{loadedBytes, Called};
 
-// Loads a terminal, and writes its record of 187 bytes: 6, 13.
+// Loads a terminal, and writes its record of 187 bytes. Refuses with 6, 13.
 #[no_mangle]
 pub extern "C" fn czg_terminal_load(initial: &[u8], serial: &[u8], out: &mut [u8]) -> lent::Answer
     ensures { λ r. ⌜ Written (loadedBytes (now (initial .entry)) (now (serial .entry))) (now (out .entry)) (r .number) (r .length) (now (out .exit)) ⌝ }
@@ -10,8 +10,8 @@ pub extern "C" fn czg_terminal_load(initial: &[u8], serial: &[u8], out: &mut [u8
     recordbytes::load(initial, serial, out)
 }
 
-// Gives out the terminal's next key, with the serial number that has its counter, and writes the record after it: 6, 11, 12, 13. A refusal
-// leaves all three as they were.
+// Gives out the terminal's next key, with the serial number that has its counter, and writes the record after it. Refuses with
+// 6, 11, 12, 13; a refusal leaves all three as they were.
 #[no_mangle]
 pub extern "C" fn czg_terminal_next_key(
     record: &mut [u8],

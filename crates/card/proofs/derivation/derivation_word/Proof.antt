@@ -8,6 +8,7 @@ use Rattle.card.proofs.Derivations.{derivation-value, low-characters}
 use Rattle.card.proofs.derivation.derivation_word.Statement.{statement}
 use Rattle.card.proofs.derivation.derivation_word.Tie as tie
 
+-- no half-bytes yet
 none : 0 ≡ wordOf []
 unfolding wordOf fromBase
 none = refl
