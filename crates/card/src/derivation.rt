@@ -20,7 +20,7 @@ fn derivation_word(card: &[u8], sequence: u32) -> u64
 pub fn derivation_data(card: &[u8], sequence: u32) -> lent::Block
     ensures { λ r. ⌜ Answered 8 (Entries.derivationData (now (card .entry)) sequence) (r .number) (r .value) ⌝ }
 {
-    if !lent::sized(13, 19, card) {
+    if !lent::card_sized(card) {
         return lent::refused_block(lent::SIZE);
     }
     if sequence > 99 {

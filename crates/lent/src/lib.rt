@@ -40,6 +40,7 @@ pub use numbers::MESSAGE_TYPE;
 pub use numbers::NO_SUCH_PIN;
 pub use numbers::SHORT_BUFFER;
 pub use numbers::SIZE;
+pub use sizes::card_sized;
 pub use sizes::key_size;
 pub use sizes::sized;
 pub use texts::same;

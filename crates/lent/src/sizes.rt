@@ -1,6 +1,7 @@
-// The sizes of keys and texts.
+// The sizes of keys, texts and card numbers.
 ghost use mathlib.Core.Path.{_≡_};
 ghost use lib.ListN.{length};
+ghost use Rattle.lent.specs.CardNumbers.{cardSize};
 ghost use Rattle.lent.specs.Choice.{between};
 ghost use Rattle.lent.specs.Keys.{keySizes};
 
@@ -22,4 +23,11 @@ pub fn sized(least: usize, most: usize, s: &[u8]) -> bool
         return false;
     }
     s.len() <= most
+}
+
+// Whether a card number has 13 to 19 characters.
+pub fn card_sized(card: &[u8]) -> bool
+    ensures { λ r. ⌜ r ≡ cardSize (now (card .entry)) ⌝ }
+{
+    sized(13, 19, card)
 }

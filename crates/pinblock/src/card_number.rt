@@ -1,17 +1,10 @@
-// Card numbers and their part of a PIN's block (01, PIN blocks; ISO 9564-1, format 0).
+// A card number's part of a PIN's block (01, PIN blocks; ISO 9564-1, format 0).
 ghost use mathlib.Core.Path.{_≡_};
 ghost use mathlib.Core.Bool.{true};
 ghost use Rattle.lent.specs.CardNumbers.{cardSize};
 ghost use Rattle.lent.specs.Choice.{all};
 ghost use Rattle.lent.specs.Characters.{digit};
 ghost use Rattle.pinblock.specs.CardNumber.{cardPart};
-
-// Whether a card number has 13 to 19 characters.
-pub(crate) fn card_sized(card: &[u8]) -> bool
-    ensures { λ r. ⌜ r ≡ cardSize (now (card .entry)) ⌝ }
-{
-    lent::sized(13, 19, card)
-}
 
 // A card number's part of a PIN's block: 0000 and the twelve rightmost digits leaving out the last.
 pub(crate) fn card_part(card: &[u8]) -> u64

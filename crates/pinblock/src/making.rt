@@ -1,6 +1,5 @@
 // Making clear PIN blocks.
 use crate::card_number::card_part;
-use crate::card_number::card_sized;
 use crate::pin::pin_block;
 use crate::pin::pin_sized;
 ghost use Rattle.lent.specs.Result.{Answered};
@@ -27,7 +26,7 @@ pub fn make_with_card(pin: &[u8], card: &[u8]) -> lent::Block
     if !pin_sized(pin) {
         return lent::refused_block(lent::SIZE);
     }
-    if !card_sized(card) {
+    if !lent::card_sized(card) {
         return lent::refused_block(lent::SIZE);
     }
     if !lent::all_digits(pin) {

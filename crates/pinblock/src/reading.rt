@@ -1,6 +1,5 @@
 // Reading clear PIN blocks.
 use crate::card_number::card_part;
-use crate::card_number::card_sized;
 use crate::half_bytes::half_byte;
 use crate::pin::pin_block;
 use crate::pin::pin_sized;
@@ -76,7 +75,7 @@ pub fn read_with_card(block: &[u8], card: &[u8], out: &mut [u8]) -> lent::Answer
     if block.len() != 8 {
         return lent::refused(lent::SIZE);
     }
-    if !card_sized(card) {
+    if !lent::card_sized(card) {
         return lent::refused(lent::SIZE);
     }
     if !lent::all_digits(card) {

@@ -17,11 +17,11 @@ use Rattle.card.proofs.derivation.derivation_data.Tie as tie
 returns : tie.Need-returns
 unfolding derivationData
 returns c =
-    refused-block (c .refused-block .ensures) (size, refl, simp (sym (c .before .before .sized .ensures) ∙ not-true _ (c .before .if1 .taken)))
+    refused-block (c .refused-block .ensures) (size, refl, simp (sym (c .before .before .card-sized .ensures) ∙ not-true _ (c .before .if1 .taken)))
 
 -- the tests that are passed
 card-sized : (c : tie.Else1) → cardSize (c .before .before .before .args .card .now) ≡ true
-card-sized c = sym (c .before .sized .ensures) ∙ not-false _ (c .if1 .left)
+card-sized c = sym (c .before .card-sized .ensures) ∙ not-false _ (c .if1 .left)
 
 in-range : (c : tie.Else2) → sequenceRange (c .before .before .before .before .args .sequence) ≡ true
 in-range c = le-leb (c .before .before .before .before .args .sequence) 99 (omega arith)
