@@ -5,7 +5,7 @@ use mathlib.Core.Path.{_≡_, refl, sym, _∙_}
 use mathlib.Core.Bool.{true}
 use Rattle.lent.specs.Refusals.{noSuchPin}
 use Rattle.lent.proofs.Results.{refused-answer}
-use Rattle.pinblock.specs.Pin.{pinSize, permitted}
+use Rattle.pinblock.specs.Pin.{pinSize, permitted, pinBlock}
 use Rattle.pinblock.specs.Reading.{pinIfMade}
 use Rattle.pinblock.proofs.reading.pin_if_made.Statement.{statement}
 use Rattle.pinblock.proofs.reading.pin_if_made.Tie as tie
@@ -26,17 +26,22 @@ returns-2 c =
 allowed : (c : tie.Else2) → permitted (c .before .before .before .before .before .before .args .pin .now) ≡ true
 allowed c = rw (long (c .before .before)) (sym (c .before .all-digits .ensures) ∙ not-false _ (c .if2 .left))
 
+-- past the last test the PIN's block is this one
+made : (c : tie.Else3) → let a = c .before .before .before .before .before .before .before .before .args in pinBlock (a .pin .now) ≡ a .block
+made c = sym (c .before .pin-block .ensures) ∙ c .if3 .left
+
 returns-3 : tie.Need-returns-3
 unfolding pinIfMade
 returns-3 c =
     let b = c .before .before in
-    refused-answer (c .refused3 .ensures) (noSuchPin, refl, rw (allowed (b .before), ← b .pin-block .ensures, ne-eqb _ _ (c .before .if3 .taken)))
+    let other = ne-eqb _ _ (λ e. c .before .if3 .taken (b .pin-block .ensures ∙ e)) in
+    refused-answer (c .refused3 .ensures) (noSuchPin, refl, rw (allowed (b .before), other))
 
 returns-4 : tie.Need-returns-4
 unfolding pinIfMade
 returns-4 c =
     let e = c .before .before .before .before in
-    rw (allowed (e .before .before), ← e .before .pin-block .ensures, eq-eqb _ _ (e .if3 .left)) (c .before .before .lend .ensures)
+    rw (allowed (e .before .before), eq-eqb _ _ (made e)) (c .before .before .lend .ensures)
 
 pub pin-if-made-spec : {M : Type 1} → statement M
 pin-if-made-spec =
