@@ -1,7 +1,11 @@
 -- `known_type` meets its contract: one start after the other.
 use borrow.Author.Tests.{eq-eqb, ne-eqb}
 use borrow.Author.Needs.{needs}
-use mathlib.Core.Path.{sym, _∙_}
+use mathlib.Core.Path.{_≡_, sym, _∙_}
+use mathlib.Core.Bool.{true, false}
+use lib.Dec.{eqb}
+use Rattle.lent.specs.Characters.{twoDigits}
+use Rattle.lent.specs.Texts.{startsWith}
 use Rattle.lent.specs.Words.{toBase}
 use Rattle.lent.proofs.Laws.{either-false}
 use Rattle.message.specs.Records.{knownType}
@@ -12,31 +16,38 @@ returns : tie.Need-returns
 unfolding knownType
 returns c = simp (ne-eqb _ _ (c .if1 .taken))
 
+-- the field is the message type, and starts with none of those before
+type : (c : tie.Else1) → eqb (c .before .before .args .field) 0 ≡ true
+type c = eq-eqb _ _ (c .if1 .left)
+
+not-01 : (c : tie.Else2) → startsWith (twoDigits 1) (c .before .before .before .before .before .args .body .now) ≡ false
+unfolding toBase
+not-01 c = sym (c .before .starts-with .ensures) ∙ c .if2 .left
+
+not-02 : (c : tie.Else3) → startsWith (twoDigits 2) (c .before .before .before .before .before .before .before .before .args .body .now) ≡ false
+unfolding toBase
+not-02 c = sym (c .before .starts-with2 .ensures) ∙ c .if3 .left
+
+not-04 : (c : tie.Else4) → startsWith (twoDigits 4) (c .before .before .before .before .before .before .before .before .before .before .before .args .body .now) ≡ false
+unfolding toBase
+not-04 c = sym (c .before .starts-with3 .ensures) ∙ c .if4 .left
+
 returns-2 : tie.Need-returns-2
 unfolding knownType toBase
-returns-2 c = simp (eq-eqb _ _ (c .before .before .before .if1 .left), sym (c .before .starts-with .ensures) ∙ c .if2 .taken)
+returns-2 c = simp (type (c .before .before .before), sym (c .before .starts-with .ensures) ∙ c .if2 .taken)
 
 returns-3 : tie.Need-returns-3
 unfolding knownType toBase
 returns-3 c =
     let d = c .before .before .before in
-    simp (
-      eq-eqb _ _ (d .before .before .before .if1 .left),
-      sym (d .before .starts-with .ensures) ∙ d .if2 .left,
-      sym (c .before .starts-with2 .ensures) ∙ c .if3 .taken,
-    )
+    simp (type (d .before .before .before), not-01 d, sym (c .before .starts-with2 .ensures) ∙ c .if3 .taken)
 
 returns-4 : tie.Need-returns-4
 unfolding knownType toBase
 returns-4 c =
     let d = c .before .before .before in
     let e = d .before .before .before in
-    simp (
-      eq-eqb _ _ (e .before .before .before .if1 .left),
-      sym (e .before .starts-with .ensures) ∙ e .if2 .left,
-      sym (d .before .starts-with2 .ensures) ∙ d .if3 .left,
-      sym (c .before .starts-with3 .ensures) ∙ c .if4 .taken,
-    )
+    simp (type (e .before .before .before), not-01 e, not-02 d, sym (c .before .starts-with3 .ensures) ∙ c .if4 .taken)
 
 returns-5 : tie.Need-returns-5
 unfolding knownType toBase
@@ -44,14 +55,7 @@ returns-5 c =
     let b = c .before .before in
     let d = b .before .before .before in
     let e = d .before .before .before in
-    simp (
-      eq-eqb _ _ (e .before .before .before .if1 .left),
-      sym (e .before .starts-with .ensures) ∙ e .if2 .left,
-      sym (d .before .starts-with2 .ensures) ∙ d .if3 .left,
-      sym (b .before .starts-with3 .ensures) ∙ b .if4 .left,
-      either-false,
-    )
-    (c .starts-with4 .ensures)
+    simp (type (e .before .before .before), not-01 e, not-02 d, not-04 b, either-false) (c .starts-with4 .ensures)
 
 pub known-type-spec : {M : Type 1} → statement M
 known-type-spec =
