@@ -1,11 +1,14 @@
 -- `chained` meets its contract.
 use borrow.Author.Needs.{needs}
-use mathlib.Core.Path.{_≡_, refl}
+use mathlib.Core.Path.{_≡_, refl, ap, _∙_}
 use Prim.Native.Nat.{_≤_, _-_, _*_, _+_, _/_}
 use native.Mathlib.Numerals.{add-one}
 use native.Mathlib.Omega.{arith}
-use lib.ListN.{length}
+use lib.Bits.{bitXor}
+use lib.ListN.{length, drop}
+use Rattle.lent.specs.Words.{word}
 use Rattle.lent.proofs.Lists.{part-rest}
+use Rattle.cipher.specs.Des.{encryptedWith}
 use Rattle.cipher.proofs.Laws.{encrypted-with}
 use Rattle.chaining.specs.Chain.{blocks, chainedTo, chained}
 use Rattle.chaining.proofs.chained.Statement.{statement}
@@ -27,7 +30,9 @@ loop-again c =
     let l = c .before .before .before .before .loop in
     let s = c .before .before .before .before .before .before .before .args .s .now in
     let keys = c .before .before .before .before .before .schedule in
-    (omega arith, rw (add-one (l .i), c .encrypt-with .ensures, keys .ensures, encrypted-with, l .inv .1, c .before .word-of .ensures, part-rest (8 * l .i) s))
+    let block : c .before .word-of .result ≡ word (drop (8 * l .i) s) = c .before .word-of .ensures ∙ ap word (part-rest (8 * l .i) s) in
+    let next : c .encrypt-with .result ≡ encryptedWith (keys .result .keys) (bitXor (l .h) (c .before .word-of .result)) = c .encrypt-with .ensures in
+    (omega arith, rw (add-one (l .i), next, keys .ensures, encrypted-with, l .inv .1, block))
 
 returns : tie.Need-returns Inv-loop μ-loop
 unfolding chained blocks
