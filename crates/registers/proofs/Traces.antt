@@ -1,5 +1,5 @@
 -- What each call keeps up holds at every place of a list of calls.
-use mathlib.Core.Path.{_≡_, subst}
+use mathlib.Core.Path.{_≡_, sym, subst}
 use mathlib.Core.List.{List, [], _∷_, _++_}
 use Prim.Native.Nat.{ℕ, _+_}
 use native.Mathlib.Nat.{zero-add, add-zero, add-assoc}
@@ -14,7 +14,8 @@ module _ {T X : Type 0} (leaves : X → T) (gives : X → ℕ) (Promise : T → 
   unfolding recordAfter doneIn
   cut [] later n t now traced = (rw (add-zero n) now, traced)
   cut (x ∷ earlier) later n t now (call promise more) =
-      rw (← add-assoc n (gives x) (doneIn gives earlier)) (cut earlier later (n + gives x) (leaves x) (called n t x now promise .1) more)
+      let given : n + doneIn gives (x ∷ earlier) ≡ n + gives x + doneIn gives earlier = sym (add-assoc n (gives x) (doneIn gives earlier)) in
+      rw given (cut earlier later (n + gives x) (leaves x) (called n t x now promise .1) more)
 
   module _ (t : T) (calls : List X) (start : OfRecord 0 t) (traced : Trace leaves Promise t calls) where
     -- a list that starts with no key given, cut in two
