@@ -2,7 +2,7 @@
 ghost use mathlib.Core.Path.{_≡_};
 ghost use Rattle.lent.specs.Result.{Answered};
 ghost use Rattle.keyed.specs.Keyed.{keySize, changedBlock, encryptBlock, decryptBlock};
-ghost use Rattle.keyed.specs.Private.{changedUnder};
+ghost use Rattle.keyed.specs.Private.{changedBy, changedUnder};
 
 // The two directions of the cipher.
 enum Direction {
@@ -17,13 +17,10 @@ pub fn key_sized(key: &[u8]) -> bool
     lent::key_size(key.len())
 }
 
-// A word encrypted or decrypted under a key.
-fn changed_word(direction: Direction, key: &[u8], x: u64) -> u64
-    ensures { λ r. ⌜ r ≡ changedUnder direction (now (key .entry)) x ⌝ }
+// A word encrypted or decrypted: by DES under the left key alone, or by triple DES under both.
+fn changed_word(direction: Direction, single: bool, left: u64, right: u64, x: u64) -> u64
+    ensures { λ r. ⌜ r ≡ changedBy direction single left right x ⌝ }
 {
-    let left = lent::word_of(key);
-    let right = lent::right_half(key);
-    let single = key.len() == 8;
     match direction {
         Direction::Encrypting => {
             if single {
@@ -50,7 +47,10 @@ fn changed_block(direction: Direction, key: &[u8], block: &[u8]) -> lent::Block
     if !key_sized(key) {
         return lent::refused_block(lent::SIZE);
     }
-    lent::block_of(changed_word(direction, key, lent::word_of(block)))
+    let single = key.len() == 8;
+    let left = lent::word_of(key);
+    let right = lent::right_half(key);
+    lent::block_of(changed_word(direction, single, left, right, lent::word_of(block)))
 }
 
 // A block encrypted under a key. Refuses with 6 if the block does not have 8 bytes or the key 8 or 16.
