@@ -71,7 +71,7 @@ pub nothing-appended : {s : List ℕ} {n : ℕ} → Appended [] s s n n
 nothing-appended {s} {n} = record { end = rw (add-zero n); memory = rw (add-zero n, append-nil, take-append-drop) }
 
 -- one value is appended after the other
-pub both-appended : {v w a b c : List ℕ} {n k r : ℕ} → n + length (v ++ w) ≤ length a
+both-appended : {v w a b c : List ℕ} {n k r : ℕ} → n + length (v ++ w) ≤ length a
     → Appended v a b n k → Appended w b c k r → Appended (v ++ w) a c n r
 both-appended {v = v} {w = w} {a = a} {b = b} {n = n} {k = k} room p q =
     let long = length-append v w in
