@@ -29,7 +29,7 @@ input c = c .before .before .before .before .before .before .before .args .input
 
 both : (c : tie.After-message-text-and-mac) → let w = c .message-text-and-mac in
     TextAndMac (messageTextAndMac (take 8 (input c)) (drop 8 (input c))) (replicate 166 0) (w .result .number) (w .result .length) (w .result .mac) (w .last .1 .1 .0)
-both c = rw (part-rest 8 (input c)) at (c .message-text-and-mac .ensures)
+both c = rw (← part-rest 8 (input c)) (c .message-text-and-mac .ensures)
 
 returns-2 : tie.Need-returns-2
 returns-2 c =
