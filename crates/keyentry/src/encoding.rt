@@ -5,7 +5,8 @@ use crate::units::Doubling;
 use crate::units::digits_of;
 ghost use Prim.Native.Nat.{_+_, _*_, _≤_};
 ghost use lib.ListN.{length};
-ghost use Rattle.lent.specs.Appending.{appending, Appended};
+ghost use Rattle.lent.specs.Appending.{appending};
+ghost use Rattle.lent.specs.Private.{Appended};
 ghost use Rattle.lent.specs.Result.{Written};
 ghost use Rattle.keyentry.specs.Hexadecimal.{textOf};
 

@@ -9,7 +9,8 @@ use native.Mathlib.Omega.{arith}
 use lib.Dec.{leb}
 use lib.ListN.{length, take, drop, length-append, length-drop, take-append-drop, drop-of-length-le}
 use lib.Seq.{take-at, drop-append-add, drop-drop, length-take-le}
-use Rattle.lent.specs.Appending.{appending, Appended, Appends}
+use Rattle.lent.specs.Appending.{appending}
+use Rattle.lent.specs.Private.{Appended, Appends}
 use Rattle.lent.specs.Refusals.{numberOf, shortBuffer}
 use Rattle.lent.specs.Result.{done, lend, over, Written}
 use Rattle.lent.proofs.Laws.{cases}

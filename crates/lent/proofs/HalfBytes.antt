@@ -1,18 +1,20 @@
 -- Laws on half-bytes: those of digits, and the word of half-bytes.
 use borrow.Author.Tests.{lt-ltb}
-use mathlib.Core.Path.{_≡_, refl, _∙_}
+use mathlib.Core.Path.{_≡_, refl, sym, _∙_}
 use mathlib.Core.Bool.{Bool, true}
 use mathlib.Core.List.{List, [], _∷_, _++_, map, map-append, append-assoc}
 use Prim.Native.Nat.{ℕ, suc, _+_, _-_, _*_, _%_, _^_, _<_, _≤_}
+use native.Mathlib.Nat.{mod-eq-of-lt}
 use native.Mathlib.Numerals.{add-one}
 use native.Mathlib.Omega.{arith}
-use lib.Dec.{ltb}
+use lib.Dec.{ltb, lit<}
 use lib.ListN.{length, getD, take, length-append}
 use lib.Seq.{getD-append-seam, take-suc}
 use Rattle.lent.specs.Characters.{digit, digitValue}
 use Rattle.lent.specs.Choice.{all}
 use Rattle.lent.specs.HalfBytes.{lowHalf, wordOf}
-use Rattle.lent.specs.Words.{fromBase}
+use Rattle.lent.specs.Words.{fromBase, toBase}
+use Rattle.lent.proofs.Bases.{to-length, from-to}
 use Rattle.lent.proofs.Laws.{both-true, between-true}
 use Rattle.lent.proofs.Lists.{all-map}
 use Rattle.lent.proofs.Parts.{from-front}
@@ -41,6 +43,11 @@ pub low-digits : (s : List ℕ) → all digit s ≡ true → map lowHalf s ≡ m
 low-digits = map-digits lowHalf digitValue (λ x h k. omega arith)
 
 -- ---- the word of half-bytes
+
+-- every word is that of its sixteen half-bytes, so that the promise of `with_half_bytes` speaks of every x
+pub word-halves : (x : ℕ) → x < 2 ^ 64 → x ≡ wordOf (toBase 16 16 x)
+unfolding wordOf
+word-halves x h = sym (rw (to-length 16 16 x, from-to 16 (lit< tt) 16 x, mod-eq-of-lt h) (mod-eq-of-lt h))
 
 -- with one more after them
 one-more : (s : List ℕ) (h : ℕ) → wordOf (s ++ h ∷ []) ≡ (wordOf s * 16 + h) % 2 ^ 64

@@ -1,21 +1,11 @@
 -- A value written into lent memory after bytes that stand there.
-use mathlib.Core.Path.{_≡_}
 use mathlib.Core.List.{List, _++_}
-use Prim.Native.Nat.{ℕ, _+_, _≤_}
+use Prim.Native.Nat.{ℕ}
 use lib.Dec.{leb}
-use lib.ListN.{length, take, drop}
+use lib.ListN.{length, take}
 use Rattle.lent.specs.Refusals.{shortBuffer}
 use Rattle.lent.specs.Result.{Result, done, require}
 
 -- the first n bytes of memory, then the value; memory that has fewer is too short
 abbrev pub appending : List ℕ → List ℕ → ℕ → Result (List ℕ)
 appending value memory n = require (leb n (length memory)) shortBuffer (done (take n memory ++ value))
-
--- Where there is room: the value stands after the first n bytes, and the first r end with it.
-pub record Appended (value before after : List ℕ) (n r : ℕ) : Type 0 where
-  pub end : r ≡ n + length value
-  pub memory : after ≡ take n before ++ value ++ drop (n + length value) before
-
--- The same of a function that does not ask for the room: it appends the value if there is room for it.
-abbrev pub Appends : List ℕ → List ℕ → List ℕ → ℕ → ℕ → Type 0
-Appends value before after n r = n + length value ≤ length before → Appended value before after n r

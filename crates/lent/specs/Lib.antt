@@ -8,3 +8,4 @@ pub mod Keys
 pub mod Refusals
 pub mod Result
 pub mod Appending
+pub mod Private

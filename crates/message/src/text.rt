@@ -8,7 +8,7 @@ use crate::records::Read;
 ghost use mathlib.Core.Path.{_≡_};
 ghost use Prim.Native.Nat.{_≤_};
 ghost use lib.ListN.{length, take};
-ghost use Rattle.lent.specs.Appending.{Appends};
+ghost use Rattle.lent.specs.Private.{Appends};
 ghost use Rattle.lent.specs.Result.{Answered, Written};
 ghost use Rattle.message.specs.Text;
 ghost use Rattle.message.specs.Gathered;

@@ -6,7 +6,7 @@ use native.Mathlib.Nat.{div-one}
 use native.Mathlib.Omega.{arith}
 use lib.Dec.{ltb}
 use lib.ListN.{length, getD, length-append}
-use Rattle.lent.specs.Appending.{Appends}
+use Rattle.lent.specs.Private.{Appends}
 use Rattle.lent.specs.Characters.{digitOf, twoDigits}
 use Rattle.lent.specs.Words.{toBase}
 use Rattle.lent.proofs.Appending.{appended-front}

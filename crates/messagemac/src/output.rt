@@ -2,7 +2,7 @@
 ghost use mathlib.Core.Path.{_≡_};
 ghost use mathlib.Core.List.{_++_};
 ghost use lib.ListN.{length};
-ghost use Rattle.lent.specs.Appending.{Appends};
+ghost use Rattle.lent.specs.Private.{Appends};
 ghost use Rattle.keyentry.specs.Hexadecimal.{textOf};
 ghost use Rattle.messagemac.specs.Output;
 ghost use Rattle.messagemac.specs.Output.{line, decimal, refusedWord, Made};

@@ -5,7 +5,7 @@ use Prim.Native.Nat.{ℕ, _+_}
 use native.Mathlib.Omega.{arith}
 use lib.ListN.{length, take, drop, length-append, length-drop, take-append-drop}
 use lib.Seq.{take-append-seam, drop-at}
-use Rattle.lent.specs.Appending.{Appends}
+use Rattle.lent.specs.Private.{Appends}
 use Rattle.lent.proofs.Appending.{nothing-appended, both-appends}
 use Rattle.recordbytes.specs.Parts.{joined, cut, total}
 

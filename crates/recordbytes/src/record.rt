@@ -2,7 +2,7 @@
 use terminal::Terminal;
 ghost use mathlib.Core.Path.{_≡_};
 ghost use lib.ListN.{length};
-ghost use Rattle.lent.specs.Appending.{Appends};
+ghost use Rattle.lent.specs.Private.{Appends};
 ghost use Rattle.recordbytes.specs.RecordBytes.{recordSize, recordBytes, numberBytes, registerBytes, registersOf, terminalOf};
 
 // ---- writing

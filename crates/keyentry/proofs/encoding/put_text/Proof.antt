@@ -5,7 +5,7 @@ use Prim.Native.Nat.{_-_, _≤_}
 use native.Mathlib.Omega.{arith}
 use lib.ListN.{length, take}
 use lib.Seq.{take-all}
-use Rattle.lent.specs.Appending.{Appends}
+use Rattle.lent.specs.Private.{Appends}
 use Rattle.lent.proofs.Appending.{appended, nothing-appended, both-appends}
 use Rattle.keyentry.specs.Hexadecimal.{textOf}
 use Rattle.keyentry.proofs.Texts.{text-length, text-next}

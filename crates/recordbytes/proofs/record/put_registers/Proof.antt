@@ -6,7 +6,7 @@ use native.Mathlib.Numerals.{add-one}
 use native.Mathlib.Omega.{arith}
 use lib.ListN.{length, take}
 use lib.Seq.{take-all}
-use Rattle.lent.specs.Appending.{Appends}
+use Rattle.lent.specs.Private.{Appends}
 use Rattle.lent.proofs.Appending.{nothing-appended, both-appends}
 use Rattle.recordbytes.proofs.Bytes.{registers-snoc}
 use Rattle.recordbytes.specs.RecordBytes.{registerBytes}
