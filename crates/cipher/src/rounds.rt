@@ -1,81 +1,62 @@
-// The cipher function f and the sixteen rounds.
-use crate::bits::permute;
-use crate::tables::EXPANSION;
-use crate::tables::ROUND_PERMUTATION;
-use crate::tables::S1;
-use crate::tables::S2;
-use crate::tables::S3;
-use crate::tables::S4;
-use crate::tables::S5;
-use crate::tables::S6;
-use crate::tables::S7;
-use crate::tables::S8;
+// The sixteen rounds. Their halves stand expanded by E, as the merged words give them.
+ghost use mathlib.Core.List.{[], _∷_};
 ghost use mathlib.Core.Path.{_≡_};
-ghost use Prim.Native.Nat.{_+_, _*_, _/_, _%_, _^_, _<_};
+ghost use Prim.Native.Nat.{ℕ, _^_, _<_};
 ghost use Rattle.cipher.specs.Bits.{permuted};
-ghost use Rattle.cipher.specs.Private.{SBox};
+ghost use Rattle.cipher.specs.Private.{LeadsTo};
 ghost use Rattle.cipher.specs.Rounds;
 ghost use Rattle.cipher.specs.Tables;
 
-// The expansion E.
-fn expand(x: u64) -> u64
+// The expansion E: each six bits of it stand in a row where the last bit of x stands before the first, and the first after the last.
+pub(crate) fn expand(x: u64) -> u64
+    requires { ⌜ x < 2 ^ 32 ⌝ }
     ensures { λ r. ⌜ r ≡ permuted 32 Tables.expansion x ⌝ }
 {
-    permute(32, &EXPANSION, x)
+    let ring = ((x % 2) << 33) ^ (x << 1) ^ (x >> 31);
+    ((ring >> 28) << 42)
+        ^ (((ring >> 24) % 64) << 36)
+        ^ (((ring >> 20) % 64) << 30)
+        ^ (((ring >> 16) % 64) << 24)
+        ^ (((ring >> 12) % 64) << 18)
+        ^ (((ring >> 8) % 64) << 12)
+        ^ (((ring >> 4) % 64) << 6)
+        ^ (ring % 64)
 }
 
-// The bits of `before`, and after them the four that an S-box gives for six bits of x, which have `right` bits on their
-// right.
-fn substitute_six(before: u64, table: &[u8; 64], x: u64, right: u64) -> u64
-    requires { ⌜ (before < 2 ^ 28) × (right < 64) × SBox (now table) ⌝ }
-    ensures { λ r. ⌜ (r ≡ before * 16 + Rounds.sBox (now (table .entry)) (x / 2 ^ right % 64)) × (r < before * 16 + 16) ⌝ }
+// The 32 bits that E expanded: the middle four of each six.
+pub(crate) fn pack(x: u64) -> u64
+    ensures { λ r. ⌜ ((a : ℕ) → a < 2 ^ 32 → x ≡ permuted 32 Tables.expansion a → r ≡ a) ⌝ }
 {
-    let six = (x >> right) % 64;
-    let row = six / 32 * 2 + six % 2;
-    let column = six / 2 % 16;
-    before * 16 + table[(row * 16 + column) as usize] as u64
+    (((x >> 43) % 16) << 28)
+        ^ (((x >> 37) % 16) << 24)
+        ^ (((x >> 31) % 16) << 20)
+        ^ (((x >> 25) % 16) << 16)
+        ^ (((x >> 19) % 16) << 12)
+        ^ (((x >> 13) % 16) << 8)
+        ^ (((x >> 7) % 16) << 4)
+        ^ ((x >> 1) % 16)
 }
 
-// The eight S-boxes: 48 bits to 32.
-fn substitute(x: u64) -> u64
-    ensures { λ r. ⌜ r ≡ Rounds.substituted x ⌝ }
+// A round for each key, on halves that stand expanded; at their end the right half stands before the left, 32 bits each.
+pub(crate) fn rounds(keys: &[u64], left: u64, right: u64) -> u64
+    ensures { λ y. ⌜ ((whole : ℕ) → LeadsTo whole (now (keys .entry)) left right → y ≡ whole) ⌝ }
 {
-    let y1 = substitute_six(0, &S1, x, 42);
-    let y2 = substitute_six(y1, &S2, x, 36);
-    let y3 = substitute_six(y2, &S3, x, 30);
-    let y4 = substitute_six(y3, &S4, x, 24);
-    let y5 = substitute_six(y4, &S5, x, 18);
-    let y6 = substitute_six(y5, &S6, x, 12);
-    let y7 = substitute_six(y6, &S7, x, 6);
-    substitute_six(y7, &S8, x, 0)
-}
-
-// The permutation P.
-fn round_permutation(x: u64) -> u64
-    ensures { λ r. ⌜ r ≡ permuted 32 Tables.roundPermutation x ⌝ }
-{
-    permute(32, &ROUND_PERMUTATION, x)
-}
-
-// The cipher function f of the right half and a round key.
-fn round_function(right: u64, key: u64) -> u64
-    ensures { λ r. ⌜ r ≡ Rounds.roundFunction right key ⌝ }
-{
-    round_permutation(substitute(expand(right) ^ key))
-}
-
-// The sixteen rounds on the two halves of x; at their end the right half stands before the left.
-pub(crate) fn rounds(keys: [u64; 16], x: u64) -> u64
-    ensures { λ y. ⌜ y ≡ Rounds.rounded keys x ⌝ }
-{
-    let mut l = x >> 32;
-    let mut r = x % 0x1_0000_0000;
+    let mut l = left;
+    let mut r = right;
     let mut i: usize = 0;
-    while i < 16 {
-        let next = l ^ round_function(r, keys[i]);
+    while i < keys.len() {
+        let next = l ^ merged::substituted(r ^ keys[i]);
         l = r;
         r = next;
         i += 1;
     }
-    r * 0x1_0000_0000 + l
+    (pack(r) << 32) ^ pack(l)
+}
+
+// Two rounds from nothing with the keys x and 0: the first reads the words for x, the second the bits that E repeats in them.
+pub(crate) fn two_rounds(x: u64) -> u64
+    ensures { λ y. ⌜ y ≡ Rounds.rounded (x ∷ 0 ∷ []) 0 ⌝ }
+{
+    let keys = [x, 0];
+    rounds(&keys, 0, 0)
 }

@@ -16,7 +16,8 @@ use Rattle.recordbytes.specs.Calls.{loadedBytes}
 use Rattle.meanings.specs.Meanings.{meaning}
 
 -- The answers of the table's entries, in its order, from the inputs a, b and c and the number x. (A sequence is below 2 to the power 32 and a
--- counter below 2 to the power 16.) The last entry, a terminal's next key, has its own promise, `Called` of `recordbytes`.
+-- counter below 2 to the power 16.) The last entry, a terminal's next key, has its own promise, `Called` of `recordbytes`. The
+-- self-test is no entry; its promise is the cipher's.
 unfoldable pub answers : List ℕ → List ℕ → List ℕ → ℕ → List (Result (List ℕ))
 answers a b c x =
     encryptBlock a b

@@ -2,6 +2,7 @@
 use crate::faults::MISSING;
 use crate::faults::NO_NAME;
 use crate::faults::NO_ROOM;
+use crate::faults::NO_VALUE;
 use crate::faults::NOT_A_NUMBER;
 use crate::faults::NOT_BYTES;
 use crate::faults::TOO_MANY;
@@ -47,16 +48,35 @@ pub(crate) fn put_value(out: &mut [u8], n: usize, text: bool, value: &[u8]) -> u
     put_digits(out, k, value)
 }
 
+// Puts the line of a word and a number.
+fn put_number(out: &mut [u8], n: usize, word: &[u8], number: u32) -> usize
+    requires { ⌜ n ≤ length (now out) ⌝ }
+    ensures { λ r. ⌜ r ≤ length (now (out .exit)) ⌝ }
+{
+    let k = put(out, n, word);
+    let mut digits = [0u8; 20];
+    let count = io::decimal(number as u64, &mut digits);
+    let m = put(out, k, &digits[..count]);
+    put(out, m, b"\n")
+}
+
 // Puts the line of a refusal.
 pub(crate) fn put_refused(out: &mut [u8], n: usize, number: u32) -> usize
     requires { ⌜ n ≤ length (now out) ⌝ }
     ensures { λ r. ⌜ r ≤ length (now (out .exit)) ⌝ }
 {
-    let k = put(out, n, b"refused ");
-    let mut digits = [0u8; 20];
-    let count = io::decimal(number as u64, &mut digits);
-    let m = put(out, k, &digits[..count]);
-    put(out, m, b"\n")
+    put_number(out, n, b"refused ", number)
+}
+
+// Puts the line of a self-test, from the number of the check that differs, 0 where none does.
+pub(crate) fn put_self_test(out: &mut [u8], n: usize, number: u32) -> usize
+    requires { ⌜ n ≤ length (now out) ⌝ }
+    ensures { λ r. ⌜ r ≤ length (now (out .exit)) ⌝ }
+{
+    if number != 0 {
+        return put_number(out, n, b"failed ", number);
+    }
+    put(out, n, b"done\n")
 }
 
 // Puts why a line is no request.
@@ -71,6 +91,7 @@ fn put_reason(out: &mut [u8], n: usize, fault: u8) -> usize
         TOO_MANY => put(out, n, b"too many inputs"),
         NOT_BYTES => put(out, n, b"an input is not hexadecimal bytes"),
         NOT_A_NUMBER => put(out, n, b"a number is not decimal, or too large"),
+        NO_VALUE => put(out, n, b"the request has no value to lend room for"),
         _ => put(out, n, b"the line is longer than 16384 bytes"),
     }
 }

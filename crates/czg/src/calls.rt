@@ -1,6 +1,7 @@
-// The calls of the entries. A request's place is that of its line in the table.
+// The calls of the entries and of the self-test. A request's place is that of its line in the table.
 use crate::answers::put;
 use crate::answers::put_refused;
+use crate::answers::put_self_test;
 use crate::answers::put_value;
 use crate::inputs::Inputs;
 use crate::requests::Rooms;
@@ -18,6 +19,9 @@ ghost use Rattle.czg.specs.Private.{Within, answerFor};
 
 // The place of `terminal-next-key`, which has two values and a record to be changed.
 pub(crate) const NEXT_KEY: usize = 24;
+
+// The place of `self-test`, which has no value.
+pub(crate) const SELF_TEST: usize = 25;
 
 // The cipher, key entry, texts and MACs.
 fn text_entry(place: usize, a: &[u8], b: &[u8], c: &[u8], x: u64, out: &mut [u8]) -> lent::Answer
@@ -199,6 +203,9 @@ pub(crate) fn answer(
 {
     if place < NEXT_KEY {
         return answer_one(place, i, rooms.first, bytes, out, n);
+    }
+    if place == SELF_TEST {
+        return put_self_test(out, n, cipher::self_test());
     }
     let end = i.end;
     answer_next_key(&mut bytes[..end], rooms, out, n)

@@ -20,3 +20,6 @@ pub(crate) const NOT_A_NUMBER: u8 = 6;
 
 // The line is too long.
 pub(crate) const TOO_LONG: u8 = 7;
+
+// A room is lent to a request that has no value.
+pub(crate) const NO_VALUE: u8 = 8;

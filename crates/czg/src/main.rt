@@ -1,5 +1,5 @@
 // Reads requests from standard input, one a line, and writes an answer for each on a line of its own, until the input ends. A request is an entry's
-// name and its inputs; `help` lists them.
+// name and its inputs, or the self-test; `help` lists them.
 mod answers;
 mod calls;
 mod faults;
@@ -50,9 +50,11 @@ host-key DERIVATION-KEY SERIAL-NUMBER
 terminal-load INITIAL-KEY SERIAL-NUMBER
 meaning NUMBER
 terminal-next-key RECORD
+self-test
 # A request is one of these on a line, single spaces between: PIN and CARD as such, TEXT as such to the end of the line,
 # SIZE, SEQUENCE, COUNTER and NUMBER in decimal, any other in hexadecimal, - for no bytes. PIN, CARD and TEXT of any bytes: hex: and hexadecimal.
 # NAME@ROOM lends so many bytes for the result. NAME/LABEL names a case. Answers: done and the values, refused and the number, unknown and why.
+# self-test takes no input and no room. Its answer is done, or failed and the number of the check.
 ";
     if asked(table) {
         return;

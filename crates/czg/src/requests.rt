@@ -67,6 +67,11 @@ pub(crate) fn without_label(head: &[u8]) -> &[u8] {
     &head[..end]
 }
 
+// Whether a head without its label says a room.
+pub(crate) fn says_room(head: &[u8]) -> bool {
+    find(head, 0, b'@') < head.len()
+}
+
 // Rooms that cannot be lent.
 fn no_rooms() -> Rooms
     ensures { λ r. ⌜ (r .first ≤ 1024) × (r .second ≤ 1024) ⌝ }

@@ -2,14 +2,17 @@
 use crate::answers::put;
 use crate::answers::put_unknown;
 use crate::calls::NEXT_KEY;
+use crate::calls::SELF_TEST;
 use crate::calls::answer;
 use crate::faults::NO_NAME;
 use crate::faults::NO_ROOM;
+use crate::faults::NO_VALUE;
 use crate::faults::TOO_LONG;
 use crate::inputs::read_inputs;
 use crate::lines::find;
 use crate::requests::name_of;
 use crate::requests::rooms_of;
+use crate::requests::says_room;
 use crate::requests::usage_of;
 use crate::requests::without_label;
 ghost use Prim.Native.Nat.{_+_, _≤_};
@@ -31,6 +34,9 @@ fn answer_request(table: &[u8], line: &[u8], bytes: &mut [u8], out: &mut [u8], n
     let usage = usage_of(table, name_of(head));
     if !usage.found {
         return put_unknown(out, n, NO_NAME);
+    }
+    if usage.place == SELF_TEST && says_room(head) {
+        return put_unknown(out, n, NO_VALUE);
     }
     let rooms = rooms_of(head, usage.place == NEXT_KEY);
     if !rooms.lent {

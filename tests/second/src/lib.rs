@@ -23,4 +23,5 @@ pub mod numbers;
 pub mod openssl;
 pub mod pin;
 pub mod recompute;
+pub mod self_test;
 mod tables;

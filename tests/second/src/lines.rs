@@ -2,7 +2,8 @@
 //! writes them.
 //!
 //! A request is `NAME[@ROOM][/LABEL] INPUT INPUT ..` with single spaces between.
-//! An answer is `done` and the values, or `refused` and the number.
+//! An answer is `done` and the values, or `refused` and the number; of the
+//! self-test `done`, or `failed` and the number of the check.
 
 use std::io::BufRead;
 
@@ -60,7 +61,8 @@ fn room(digits: Option<&[u8]>) -> Result<usize, String> {
     Ok(room)
 }
 
-/// The rooms that stand after `@`: a second one for a terminal's next key alone.
+/// The rooms that stand after `@`: a second one for a terminal's next key alone,
+/// and none for the self-test.
 fn rooms(name: &[u8], named: Option<&[u8]>) -> Result<Rooms, String> {
     let (result, serial) = match named.map(|named| split(named, b',')) {
         Some((result, serial)) => (Some(result), serial),
@@ -68,6 +70,9 @@ fn rooms(name: &[u8], named: Option<&[u8]>) -> Result<Rooms, String> {
     };
     if serial.is_some() && name != b"terminal-next-key" {
         return Err("two rooms".to_string());
+    }
+    if named.is_some() && name == b"self-test" {
+        return Err("a room for no result".to_string());
     }
     Ok(Rooms {
         result: room(result)?,
@@ -208,5 +213,13 @@ pub fn answer_line(answered: &Answered) -> String {
     match answered {
         Ok(values) => format!("done {}", values.join(" ")),
         Err(number) => format!("refused {number}"),
+    }
+}
+
+/// The line of the self-test's answer: the number is that of the check.
+pub fn self_test_line(tested: Result<(), u8>) -> String {
+    match tested {
+        Ok(()) => "done".to_string(),
+        Err(number) => format!("failed {number}"),
     }
 }

@@ -1,40 +1,41 @@
 //! Computes the answer of each request from its inputs alone.
 
 use crate::dukpt::{to_bytes, NextKey};
-use crate::lines::{answer_line, bytes_value, requests, text_value};
-use crate::lines::{Answered, Inputs, Request, Rooms};
+use crate::lines::{answer_line, bytes_value, requests, self_test_line, text_value};
+use crate::lines::{Inputs, Request, Rooms};
 use crate::numbers::{lend, Answer};
-use crate::{card, cleaning, dukpt, entries, key_entry, mac, message, numbers, pin};
+use crate::{card, cleaning, dukpt, entries, key_entry, mac, message, numbers, pin, self_test};
 use std::io::{BufRead, Write};
 
-/// Reads the inputs of a request and computes its values, with the rooms lent.
-/// An error says what is wrong with the inputs.
-type Compute = fn(&mut Inputs, Rooms) -> Result<Answered, String>;
+/// Reads the inputs of a request and computes its answer's line, with the rooms
+/// lent. An error says what is wrong with the inputs.
+type Compute = fn(&mut Inputs, Rooms) -> Result<String, String>;
 
-/// The one value of bytes, if the room is enough for it.
-fn bytes(answer: Answer, rooms: Rooms) -> Result<Answered, String> {
+/// The line of the one value of bytes, if the room is enough for it.
+fn bytes(answer: Answer, rooms: Rooms) -> Result<String, String> {
     let lent = answer.and_then(|value| lend(value, rooms.result));
-    Ok(lent.map(|value| vec![bytes_value(&value)]))
+    Ok(answer_line(&lent.map(|value| vec![bytes_value(&value)])))
 }
 
-/// The one value that is a PIN or a text, if the room is enough for it.
-fn text(answer: Answer, rooms: Rooms) -> Result<Answered, String> {
+/// The line of the one value that is a PIN or a text, if the room is enough for
+/// it.
+fn text(answer: Answer, rooms: Rooms) -> Result<String, String> {
     let lent = answer.and_then(|value| lend(value, rooms.result));
-    Ok(lent.map(|value| vec![text_value(&value)]))
+    Ok(answer_line(&lent.map(|value| vec![text_value(&value)])))
 }
 
-/// Key, serial number and the record after the call.
-fn next_key(answer: Result<NextKey, u8>) -> Result<Answered, String> {
+/// The line of key, serial number and the record after the call.
+fn next_key(answer: Result<NextKey, u8>) -> Result<String, String> {
     let values = |next: NextKey| {
         let record = to_bytes(&next.record);
         [&next.key[..], &next.serial, &record].map(bytes_value)
     };
-    Ok(answer.map(values).map(Vec::from))
+    Ok(answer_line(&answer.map(values).map(Vec::from)))
 }
 
 /// Every request, by its name.
 #[rustfmt::skip]
-const REQUESTS: [(&str, Compute); 25] = [
+const REQUESTS: [(&str, Compute); 26] = [
     ("meaning", |i, r| text(numbers::meaning(i.number()?), r)),
 
     ("encrypt", |i, r| bytes(entries::encrypt(&i.bytes()?, &i.bytes()?), r)),
@@ -72,6 +73,8 @@ const REQUESTS: [(&str, Compute); 25] = [
     ("host-key", |i, r| bytes(dukpt::host_key(&i.bytes()?, &i.bytes()?), r)),
     ("terminal-load", |i, r| bytes(entries::terminal_load(&i.bytes()?, &i.bytes()?), r)),
     ("terminal-next-key", |i, r| next_key(entries::terminal_next_key(&i.bytes()?, r.result, r.serial))),
+
+    ("self-test", |_, _| Ok(self_test_line(self_test::self_test()))),
 ];
 
 /// The answer's line of a request's line; an error says why it is no request.
@@ -79,9 +82,9 @@ pub fn answer(line: &[u8]) -> Result<String, String> {
     let mut request = Request::read(line)?;
     let found = REQUESTS.iter().find(|(name, _)| *name == request.name);
     let (_, compute) = found.ok_or(format!("no request `{}`", request.name))?;
-    let answered = compute(&mut request.inputs, request.rooms)?;
+    let line = compute(&mut request.inputs, request.rooms)?;
     request.inputs.end()?;
-    Ok(answer_line(&answered))
+    Ok(line)
 }
 
 /// Answers every request of the input. A line that is no request is an error.

@@ -5,6 +5,7 @@ mod common;
 use common::{hex, SUBSTITUTION};
 use second::bytes::hex as shown;
 use second::dukpt::{terminal_load, terminal_next_key, to_bytes};
+use second::lines::self_test_line;
 use second::recompute::answer;
 use std::io::Write;
 use std::process::{Command, Output, Stdio};
@@ -81,6 +82,8 @@ host-key/002 51525457585B5D5E61626467686B6D6E 0123456789ABCDF00001 = done 670B39
 host-key/zero 51525457585B5D5E61626467686B6D6E 0123456789ABCDE00000 = refused 10
 terminal-load/size - - = refused 6
 terminal-next-key/size - = refused 6
+self-test = done
+self-test/label = done
 ";
 
 /// The requests of `RIGHT` with their answers.
@@ -137,6 +140,12 @@ fn terminal_requests() {
 }
 
 #[test]
+fn self_test_lines() {
+    assert_eq!(self_test_line(Ok(())), "done");
+    assert_eq!(self_test_line(Err(7)), "failed 7");
+}
+
+#[test]
 fn bytes_that_are_no_text() {
     let asked = |request: &[u8]| answer(request).unwrap();
     assert_eq!(asked(b"clean a\xFF\xC3b\r"), "done AB");
@@ -177,6 +186,11 @@ fn wrong_lines() {
         "terminal-next-key@8,/x 00",
         "terminal-next-key@8,1025/x 00",
         "terminal-next-key@8,10,10/x 00",
+        "self-test ",
+        "self-test/x x",
+        "self-test@8",
+        "self-test@/x",
+        "self-tests",
         "clean",
         "clean/x ",
         "key-entry/x 0123456789ABCDEF",

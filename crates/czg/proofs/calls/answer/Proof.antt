@@ -11,5 +11,6 @@ slice-aggregate-answer-next-key c = sym (length-take-le _ _ (search needs))
 pub answer-spec : {M : Type 1} → statement M
 answer-spec =
     tie.close
-    (tie.spec (λ c κs. search needs) (λ c. search needs) (λ c. search needs) (λ c. search needs) (λ c. search needs)
-    slice-aggregate-answer-next-key (λ c κs. search needs) (λ c. search needs) (λ c. search needs) (λ c. search needs))
+    (tie.spec (λ c κs. search needs) (λ c. search needs) (λ c. search needs) (λ c. search needs) (λ c κs. search needs)
+    (λ c κs. search needs) (λ c. search needs) (λ c. search needs) (λ c. search needs) slice-aggregate-answer-next-key
+    (λ c κs. search needs) (λ c. search needs) (λ c. search needs) (λ c. search needs))

@@ -1,4 +1,4 @@
--- `cipher::rounds::substitute_six` meets its contract.
+-- `cipher::printed::substitute_six` meets its contract.
 use mathlib.Core.Path.{refl}
 use Prim.Native.Nat.{_+_, _*_, _/_, _%_, _^_, _≤_}
 use native.Mathlib.Omega.{arith}
@@ -6,8 +6,8 @@ use borrow.Author.Needs.{needs}
 use denote.Ref.{now}
 use Rattle.cipher.specs.Rounds.{sBox, row, column}
 use Rattle.cipher.proofs.Range.{entry-range}
-use Rattle.cipher.proofs.rounds.substitute_six.Statement.{statement}
-use Rattle.cipher.proofs.rounds.substitute_six.Tie as tie
+use Rattle.cipher.proofs.printed.substitute_six.Statement.{statement}
+use Rattle.cipher.proofs.printed.substitute_six.Tie as tie
 
 -- the entry that is read
 four-bits : (c : tie.After-result) → sBox (now (c .before .args .table)) (c .before .args .x / 2 ^ c .before .args .right % 64) ≤ 15

@@ -1,12 +1,12 @@
--- `cipher::key_schedule::rotate_left` meets its contract.
+-- `cipher::printed::rotate_left` meets its contract.
 use Prim.Native.Nat.{_-_, _*_, _^_, _≤_}
 use native.Mathlib.Nat.{mul-le-mul-left}
 use native.Mathlib.Omega.{arith}
 use borrow.Author.Needs.{needs}
 use lib.Pow.{pow-mono, shr-le}
 use Rattle.cipher.specs.Schedule.{rotatedLeft}
-use Rattle.cipher.proofs.key_schedule.rotate_left.Statement.{statement}
-use Rattle.cipher.proofs.key_schedule.rotate_left.Tie as tie
+use Rattle.cipher.proofs.printed.rotate_left.Statement.{statement}
+use Rattle.cipher.proofs.printed.rotate_left.Tie as tie
 
 -- no bit leaves the word on the left
 shifted : (c : tie.Start) → c .args .half * 2 ^ c .args .n ≤ c .args .half * 4

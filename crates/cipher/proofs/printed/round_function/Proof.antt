@@ -1,8 +1,8 @@
--- `cipher::rounds::round_function` meets its contract.
+-- `cipher::printed::round_function` meets its contract.
 use borrow.Author.Needs.{needs}
 use Rattle.cipher.specs.Rounds.{roundFunction}
-use Rattle.cipher.proofs.rounds.round_function.Statement.{statement}
-use Rattle.cipher.proofs.rounds.round_function.Tie as tie
+use Rattle.cipher.proofs.printed.round_function.Statement.{statement}
+use Rattle.cipher.proofs.printed.round_function.Tie as tie
 
 returns : tie.Need-returns
 unfolding roundFunction
