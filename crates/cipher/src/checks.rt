@@ -97,7 +97,7 @@ fn expansion_agrees() -> bool
         if word != printed::expand(x) {
             return false;
         }
-        if rounds::pack(word) != x {
+        if rounds::pack(word, 0) != x {
             return false;
         }
         n += 1;
