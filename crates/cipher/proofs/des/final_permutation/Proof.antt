@@ -1,12 +1,12 @@
 -- `cipher::des::final_permutation` meets its contract.
 use native.Mathlib.Omega.{arith}
 use borrow.Author.Needs.{needs}
-use Rattle.cipher.proofs.Exchanges.{finally, final}
+use Rattle.cipher.proofs.Exchanges.{exchanges, final}
 use Rattle.cipher.proofs.des.final_permutation.Statement.{statement}
 use Rattle.cipher.proofs.des.final_permutation.Tie as tie
 
 returns : tie.Need-returns
-unfolding finally
+unfolding exchanges
 returns c =
     let c4 = c .before in
     let c3 = c4 .before in

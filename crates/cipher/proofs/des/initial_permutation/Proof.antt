@@ -1,12 +1,12 @@
 -- `cipher::des::initial_permutation` meets its contract.
 use native.Mathlib.Omega.{arith}
 use borrow.Author.Needs.{needs}
-use Rattle.cipher.proofs.Exchanges.{initially, initial}
+use Rattle.cipher.proofs.Exchanges.{exchanges, initial}
 use Rattle.cipher.proofs.des.initial_permutation.Statement.{statement}
 use Rattle.cipher.proofs.des.initial_permutation.Tie as tie
 
 returns : tie.Need-returns
-unfolding initially
+unfolding exchanges
 returns c =
     let c4 = c .before in
     let c3 = c4 .before in

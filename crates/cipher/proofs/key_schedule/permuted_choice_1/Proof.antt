@@ -1,12 +1,12 @@
 -- `cipher::key_schedule::permuted_choice_1` meets its contract.
 use native.Mathlib.Omega.{arith}
 use borrow.Author.Needs.{needs}
-use Rattle.cipher.proofs.Exchanges.{columns, gathered, first-choice}
+use Rattle.cipher.proofs.Exchanges.{exchanges, first-choice}
 use Rattle.cipher.proofs.key_schedule.permuted_choice_1.Statement.{statement}
 use Rattle.cipher.proofs.key_schedule.permuted_choice_1.Tie as tie
 
 returns : tie.Need-returns
-unfolding columns gathered
+unfolding exchanges
 returns c =
     let b = c .before in
     rw (c .exchange3 .ensures, b .exchange2 .ensures, b .before .exchange .ensures) (first-choice (b .before .before .args .key) (omega arith))
