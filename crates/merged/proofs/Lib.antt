@@ -1,2 +1,2 @@
 -- The arms of a match on a number.
-pub mod Arms
+mod Arms
