@@ -44,7 +44,7 @@ extern "C" {
 #define CZG_SIZE 6          /* a length or size is outside its range */
 #define CZG_CHARACTER 7     /* a character is not a digit, or not hexadecimal, where one is asked */
 #define CZG_NO_SUCH_PIN 8   /* a PIN block comes from no permitted PIN */
-#define CZG_EQUAL_HALVES 9  /* the two halves of a derivation key are the same 8 bytes */
+#define CZG_EQUAL_HALVES 9  /* the two halves of a derivation key are the same without the low bit of each byte */
 #define CZG_BAD_COUNTER 10  /* host counter is 0 or has more than ten one bits */
 #define CZG_BAD_RECORD 11   /* terminal state does not hang together */
 #define CZG_EXHAUSTED 12    /* terminal exhausted */
@@ -249,7 +249,8 @@ czg_answer czg_arpc(const uint8_t *session_key, size_t session_key_size, const u
 
 /*
  * The initial key: under a derivation key of 16 bytes, triple DES of the serial number's first 8 bytes with the low five
- * bits cleared. A serial number has 10 bytes; its counter has no effect. Writes 8 bytes.
+ * bits cleared. A serial number has 10 bytes; its counter has no effect. Writes 8 bytes. The halves of the derivation key
+ * are compared without the low bit of each byte, here and for the host's key: where they agree, triple DES would be DES.
  * Refusals: 6 (derivation key, serial number), 9, 13.
  */
 czg_answer czg_initial_key(const uint8_t *derivation_key, size_t derivation_key_size,

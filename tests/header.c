@@ -106,6 +106,8 @@ int main(void)
     same("initial_key", czg_initial_key(hex(derivation), 16, hex(serial), 10, out, room), 8, hex("21EE7C08DBE820AB"));
     same("host_key", czg_host_key(hex(derivation), 16, hex(serial), 10, out, room), 8, hex("670B395E6CFB60C2"));
     refused("host_key, halves", czg_host_key(hex("51525457585B5D5E51525457585B5D5E"), 16, hex(serial), 10, out, room), CZG_EQUAL_HALVES);
+    refused("host_key, low bits", czg_host_key(hex("51525457585B5D5E50535556595A5C5F"), 16, hex(serial), 10, out, room), CZG_EQUAL_HALVES);
+    refused("initial_key, low bit", czg_initial_key(hex("51525457585B5D5E51525457585B5D5F"), 16, hex(serial), 10, out, room), CZG_EQUAL_HALVES);
     refused("host_key, counter", czg_host_key(hex(derivation), 16, hex("0123456789ABCDE00000"), 10, out, room), CZG_BAD_COUNTER);
 
     /* The terminal's first key is the host's for counter 1; its record has its parts where the header says. */

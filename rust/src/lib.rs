@@ -323,7 +323,8 @@ pub fn arpc(session_key: &[u8], arqc: &[u8], code: &[u8]) -> Result<Block, Error
 /// let serial_number = [0x01, 0x23, 0x45, 0x67, 0x89, 0xAB, 0xCD, 0xF0, 0x00, 0x01];
 /// let key = initial_key(&derivation_key, &serial_number)?;
 /// assert_eq!(key.to_vec(), key_entry(b"21EE7C08DBE820AB", 8)?);
-/// assert_eq!(initial_key(b"0123456701234567", &serial_number), Err(Error::EqualHalves));
+/// // Halves that differ in the low bits of bytes alone are the same key.
+/// assert_eq!(initial_key(b"0123456710325476", &serial_number), Err(Error::EqualHalves));
 /// # Ok::<(), Error>(())
 /// ```
 pub fn initial_key(derivation_key: &[u8], serial_number: &[u8]) -> Result<Block, Error> {

@@ -200,7 +200,19 @@ fn host_keys() {
     same(initial_key(&derivation, &serial), "21EE7C08DBE820AB");
     same(host_key(&derivation, &serial), "670B395E6CFB60C2");
     let equal = [&derivation[..8], &derivation[..8]].concat();
+    let halves = |turned: [u8; 8]| -> Vec<u8> {
+        let right = derivation.iter().zip(turned).map(|(byte, bit)| byte ^ bit);
+        derivation[..8].iter().copied().chain(right).collect()
+    };
     for entry in [initial_key, host_key] {
+        let one_low_bit = halves([0, 0, 0, 1, 0, 0, 0, 0]);
+        assert_eq!(entry(&one_low_bit, &serial), Err(Error::EqualHalves));
+        assert_eq!(entry(&halves([1; 8]), &serial), Err(Error::EqualHalves));
+        for place in 0..8 {
+            let mut other = [1; 8];
+            other[place] = 2;
+            assert!(entry(&halves(other), &serial).is_ok());
+        }
         assert_eq!(entry(&derivation[..15], &serial), Err(Error::Size));
         assert_eq!(entry(&equal, &serial[..9]), Err(Error::Size));
         assert_eq!(entry(&equal, &[0; 10]), Err(Error::EqualHalves));

@@ -9,6 +9,7 @@ mod Merged
 mod Parity
 mod Permutation
 mod Range
+mod Recovered
 mod RoundKeys
 mod Tabled
 mod Vectors

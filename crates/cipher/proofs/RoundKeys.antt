@@ -101,18 +101,18 @@ from-windows halves words h w n hn =
 -- ---- rotations
 
 -- with exclusive-or
-unfoldable turn : ℕ → ℕ → ℕ
+unfoldable pub turn : ℕ → ℕ → ℕ
 turn n half = bitXor (half * 2 ^ n) (half / 2 ^ (28 - n)) % 2 ^ 28
 
-turn-keeps : (n : ℕ) → Linear (turn n)
+pub turn-keeps : (n : ℕ) → Linear (turn n)
 unfolding turn
 turn-keeps n = after (low 28) (sum (shl n) (shr (28 - n)))
 
-turn-lt : (n half : ℕ) → turn n half < 2 ^ 28
+pub turn-lt : (n half : ℕ) → turn n half < 2 ^ 28
 unfolding turn
 turn-lt n half = mod-lt _ (lit< tt)
 
-turn-rotates : (n half : ℕ) → n ≤ 28 → half < 2 ^ 28 → turn n half ≡ rotatedLeft n half
+pub turn-rotates : (n half : ℕ) → n ≤ 28 → half < 2 ^ 28 → turn n half ≡ rotatedLeft n half
 unfolding turn rotatedLeft
 turn-rotates n half hn h =
     let e : n + (28 - n) ≡ 28 = omega arith in

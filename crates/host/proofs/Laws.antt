@@ -1,20 +1,16 @@
 -- What other crates cite: the serial number with its counter replaced, the host's keys for it, and when they are refused.
-use borrow.Author.Tests.{eqb-true, eq-eqb, not-true}
-use mathlib.Core.Path.{_≡_, refl, sym, ap, _∙_}
+use borrow.Author.Tests.{eqb-true, not-true}
+use mathlib.Core.Path.{_≡_, refl, ap}
 use mathlib.Core.List.{List}
-use mathlib.Core.Logic.{_↔_, if-pos, by-cases}
+use mathlib.Core.Logic.{if-pos}
 use mathlib.Core.Bool.{true, false, not}
 use Prim.Native.Nat.{ℕ, _+_, _*_, _/_, _%_, _^_, _<_}
 use native.Mathlib.Omega.{arith}
-use native.Mathlib.Decide.{decLt}
-use lib.Dec.{lit<, eqb}
-use lib.ListN.{length, getD, take, drop, length-take, length-drop, take-append-drop, List·getD-eq-default}
-use lib.Seq.{getD-take, getD-drop}
+use lib.Dec.{eqb}
+use lib.ListN.{length, getD, drop}
 use Rattle.lent.specs.Refusals.{size, equalHalves}
 use Rattle.lent.specs.Result.{done, require}
 use Rattle.lent.specs.Words.{word, left, right, wordBytes, fromBase}
-use Rattle.lent.proofs.Bases.{Digits, to-from}
-use Rattle.lent.proofs.Parts.{from-front}
 use Rattle.lent.proofs.Results.{require-done}
 use Rattle.cipher.specs.Triple.{tripleEncrypted}
 use Rattle.cipher.proofs.Laws.{triple-encrypted-lt}
@@ -24,7 +20,7 @@ use Rattle.host.specs.SerialNumber.{counterOf, withCounter, clearedTail}
 use Rattle.host.specs.Derivation.{oneWay, initialKeyOf, givenOut, hostKeyOf}
 use Rattle.host.specs.Entries.{sameHalves, initialKey, hostKey}
 
--- A derivation key of 16 bytes whose halves differ, and a serial number of 10 bytes.
+-- A derivation key of 16 bytes whose halves differ without low bits, and a serial number of 10 bytes.
 pub record Fit (derivation serial : List ℕ) : Type 0 where
   pub key-size : length derivation ≡ 16
   pub serial-size : length serial ≡ 10
@@ -104,30 +100,3 @@ module _ (serial : List ℕ) (c : ℕ) where
 pub initial-lt : (derivation serial : List ℕ) → initialKeyOf derivation serial < 2 ^ 64
 unfolding initialKeyOf
 initial-lt derivation serial = triple-encrypted-lt (left derivation) (right derivation) (word serial / 32 * 32)
-
--- ---- the halves of a derivation key
-
--- they have the same word exactly if they are the same eight bytes
-module _ (derivation : List ℕ) (sixteen : length derivation ≡ 16) (bytes : Digits 256 derivation) where
-  left-bytes : Digits 256 (take 8 derivation)
-  left-bytes k =
-      by-cases (decLt k 8) (λ h. rw (getD-take 8 derivation k 0 h) (bytes k))
-      (λ h. rw (List·getD-eq-default (take 8 derivation) 0 {n = k} (simp length-take (omega arith))) (lit< tt))
-
-  right-bytes : Digits 256 (drop 8 derivation)
-  right-bytes k = rw (getD-drop 8 derivation k 0) (bytes (8 + k))
-
-  left-word : word (take 8 derivation) ≡ word derivation
-  left-word =
-      sym (from-front 256 8 (take 8 derivation) (drop 8 derivation) (simp length-take (omega arith))) ∙ ap word (take-append-drop 8 derivation)
-
-  pub halves-same : (sameHalves derivation ≡ true) ↔ (take 8 derivation ≡ drop 8 derivation)
-  halves-same = (
-    λ e.
-        let left = take 8 derivation in
-        let right = drop 8 derivation in
-        sym (to-from 256 8 left left-bytes (simp length-take (omega arith)))
-        ∙ ap wordBytes (left-word ∙ eqb-true _ _ e)
-        ∙ to-from 256 8 right right-bytes (simp length-drop (omega arith)),
-    λ e. eq-eqb _ _ (sym left-word ∙ ap word e),
-  )

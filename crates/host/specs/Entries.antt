@@ -8,19 +8,20 @@ use lib.ListN.{length}
 use Rattle.lent.specs.Refusals.{size, equalHalves, badCounter}
 use Rattle.lent.specs.Result.{Result, done, require, andThen}
 use Rattle.lent.specs.Words.{left, right, wordBytes}
+use Rattle.cipher.specs.Keys.{sameKey}
 use Rattle.registers.specs.Counters.{permitted?}
 use Rattle.host.specs.SerialNumber.{counterOf}
 use Rattle.host.specs.Derivation.{initialKeyOf, hostKeyOf}
 
--- the halves of a derivation key are the same eight bytes
+-- the halves of a derivation key are the same without the low bit of each byte (02, M-104)
 abbrev pub sameHalves : List ℕ → Bool
-sameHalves derivation = eqb (left derivation) (right derivation)
+sameHalves derivation = sameKey (left derivation) (right derivation)
 
 -- the counter is not 0 and has at most ten one bits
 abbrev pub countable : ℕ → Bool
 countable c = ite (permitted? c) true false
 
--- the eight bytes of the initial key, or the refusal: 6 for another size, 9 for halves that are the same
+-- the eight bytes of the initial key, or the refusal: 6 for another size, 9 for halves that are the same without low bits
 unfoldable pub initialKey : List ℕ → List ℕ → Result (List ℕ)
 initialKey derivation serial =
     require (eqb (length derivation) 16) size

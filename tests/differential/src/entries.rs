@@ -163,15 +163,22 @@ fn card_data(random: &mut Random) -> Vec<u8> {
     random.bytes(length)
 }
 
-/// A derivation key; once in twelve with equal halves.
+/// A derivation key; once in eight with halves that are equal, or differ in low
+/// bits alone, or differ in one other bit and perhaps in low bits.
 fn derivation_key(random: &mut Random) -> Vec<u8> {
     let mut key = random.sized(16);
-    if key.len() == 16 && random.once_in(12) {
+    if key.len() == 16 && random.once_in(8) {
         key.copy_within(..8, 8);
-    }
-    if key.len() == 16 && random.once_in(40) {
-        key.copy_within(..8, 8);
-        key[15] ^= 1;
+        let low_bits = match random.below(4) {
+            0 => 0,
+            1 => 1 << random.below(8),
+            2 => 0xFF,
+            _ => random.below(256),
+        };
+        (0..8).for_each(|i| key[8 + i] ^= (low_bits >> i & 1) as u8);
+        if random.once_in(3) {
+            key[random.between(8, 15)] ^= 2 << random.below(7);
+        }
     }
     key
 }

@@ -1,7 +1,7 @@
 //! DUKPT on the host and in the terminal, single length (01, terminal keys;
 //! 002).
 
-use crate::bytes::{array, left, right, xor};
+use crate::bytes::{array, xor};
 use crate::des::{encrypt, triple_encrypt};
 use crate::numbers::{
     require, Answer, BAD_COUNTER, BAD_RECORD, EQUAL_HALVES, EXHAUSTED, SHORT_BUFFER, SIZE,
@@ -114,12 +114,17 @@ fn given_out(register_key: [u8; 8]) -> [u8; 8] {
     xor(register_key, [0, 0, 0, 0, 0, 0, 0, 0xFF])
 }
 
+/// Whether the two halves of a key agree in each byte without its low bit.
+fn same_halves(key: &[u8; 16]) -> bool {
+    (0..8).all(|i| key[i] / 2 == key[8 + i] / 2)
+}
+
 /// 6, then 9.
 fn host_inputs(derivation: &[u8], serial: &[u8]) -> Result<([u8; 16], [u8; 10]), u8> {
     require(derivation.len() == 16, SIZE)?;
     require(serial.len() == 10, SIZE)?;
     let derivation = array(derivation);
-    require(left(&derivation) != right(&derivation), EQUAL_HALVES)?;
+    require(!same_halves(&derivation), EQUAL_HALVES)?;
     Ok((derivation, array(serial)))
 }
 

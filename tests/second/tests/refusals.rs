@@ -251,9 +251,24 @@ fn equal_halves_are_refused_for_the_derivation_key_alone() {
     let equal = [0x11; 16];
     assert_eq!(dukpt::initial_key(&equal, &[0; 10]), Err(9));
     assert!(card::card_key(&equal, CARD, 0).is_ok());
-    let mut low_bit = equal;
-    low_bit[15] ^= 1;
-    assert!(dukpt::initial_key(&low_bit, &[0; 10]).is_ok());
+}
+
+#[test]
+fn halves_are_compared_without_low_bits() {
+    let serial = dukpt::with_counter(&[0; 10], 1);
+    for entry in [dukpt::initial_key, dukpt::host_key] {
+        for bits in 0..256 {
+            let mut low_bits: [u8; 16] = std::array::from_fn(|i| 0x31 + i as u8 % 8);
+            (0..8).for_each(|i| low_bits[8 + i] ^= (bits >> i & 1) as u8);
+            assert_eq!(entry(&low_bits, &serial), Err(9));
+            assert_eq!(entry(&low_bits, &serial[1..]), Err(6));
+            for bit in (0..64).filter(|bit| bit % 8 != 0) {
+                let mut other = low_bits;
+                other[8 + bit / 8] ^= 1 << (bit % 8);
+                assert!(entry(&other, &serial).is_ok());
+            }
+        }
+    }
 }
 
 #[test]

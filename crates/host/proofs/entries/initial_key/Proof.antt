@@ -1,12 +1,10 @@
 -- `host::entries::initial_key` meets its contract.
 use borrow.Author.Needs.{needs}
 use borrow.Author.Tests.{eq-eqb, ne-eqb}
-use mathlib.Core.Bool.{true, false}
-use mathlib.Core.Path.{_≡_, refl, sym, _∙_}
-use lib.ListN.{drop}
+use mathlib.Core.Path.{_≡_, refl, ap₂, _∙_}
 use Rattle.lent.specs.Refusals.{size, equalHalves}
-use Rattle.lent.specs.Words.{word}
 use Rattle.lent.proofs.Results.{refused-block}
+use Rattle.cipher.specs.Keys.{sameKey}
 use Rattle.host.specs.Entries.{sameHalves, initialKey}
 use Rattle.host.proofs.entries.initial_key.Statement.{statement}
 use Rattle.host.proofs.entries.initial_key.Tie as tie
@@ -21,26 +19,35 @@ returns-2 c =
     let e = c .before .before in
     refused-block (c .refused-block2 .ensures) (size, refl, simp (eq-eqb _ _ (e .if1 .left), ne-eqb _ _ (c .before .if2 .taken)))
 
+-- what the comparison of the halves answers
+compared : (c : tie.After-same-key) → let e = c .before .before .before .before in
+    c .same-key .result ≡ sameHalves (e .before .before .before .args .derivation .now)
+compared c = c .same-key .ensures ∙ ap₂ sameKey (c .before .before .word-of .ensures) (c .before .right-half .ensures)
+
 returns-3 : tie.Need-returns-3
 unfolding initialKey
 returns-3 c =
-    let k = c .before .before .before in
-    let e = k .before .before in
-    let same : sameHalves (e .before .before .before .args .derivation .now) ≡ true = eq-eqb _ _ (sym (k .word-of .ensures) ∙ c .before .if3 .taken ∙ c .before .before .right-half .ensures) in
-    refused-block (c .refused-block3 .ensures) (equalHalves, refl, simp (eq-eqb _ _ (e .if1 .left), eq-eqb _ _ (k .before .if2 .left), same))
+    let s = c .before .before in
+    let k = s .before .before .before in
+    refused-block (c .refused-block3 .ensures)
+    (equalHalves, refl, simp (eq-eqb _ _ (k .before .if1 .left), eq-eqb _ _ (k .if2 .left), ← compared s, c .before .if3 .taken))
 
 returns-4 : tie.Need-returns-4
 unfolding initialKey
 returns-4 c =
-    let k = c .before .before .before .before in
-    let e = k .before .before in
-    let a = e .before .before .before .args .derivation .now in
-    let differ : sameHalves a ≡ false =
-    ne-eqb (word a) (word (drop 8 a)) (λ h. c .before .before .if3 .left (k .word-of .ensures ∙ h ∙ sym (c .before .before .before .right-half .ensures))) in
-    simp (eq-eqb _ _ (e .if1 .left), eq-eqb _ _ (k .before .if2 .left), differ, ← c .before .initial-word .ensures) (c .block-of .ensures)
+    let s = c .before .before .before in
+    let k = s .before .before .before in
+    simp (
+      eq-eqb _ _ (k .before .if1 .left),
+      eq-eqb _ _ (k .if2 .left),
+      ← compared s,
+      c .before .before .if3 .left,
+      ← c .before .initial-word .ensures,
+    )
+    (c .block-of .ensures)
 
 pub initial-key-spec : {M : Type 1} → statement M
 initial-key-spec =
     tie.close
     (tie.spec (λ c κs. search needs) returns (λ c κs. search needs) returns-2 (λ c κs. search needs)
-    (λ c κs. search needs) (λ c κs. search needs) returns-3 (λ c κs. search needs) (λ c κs. search needs) returns-4)
+    (λ c κs. search needs) (λ c κs. search needs) (λ c κs. search needs) returns-3 (λ c κs. search needs) (λ c κs. search needs) returns-4)
