@@ -44,7 +44,7 @@ extern "C" {
 #define CZG_SIZE 6          /* a length or size is outside its range */
 #define CZG_CHARACTER 7     /* a character is not a digit, or not hexadecimal, where one is asked */
 #define CZG_NO_SUCH_PIN 8   /* a PIN block comes from no permitted PIN */
-#define CZG_EQUAL_HALVES 9  /* the two halves of a derivation key are the same without the low bit of each byte */
+#define CZG_EQUAL_HALVES 9  /* the two halves of a derivation key agree without the low bit of each byte */
 #define CZG_BAD_COUNTER 10  /* host counter is 0 or has more than ten one bits */
 #define CZG_BAD_RECORD 11   /* terminal state does not hang together */
 #define CZG_EXHAUSTED 12    /* terminal exhausted */

@@ -22,7 +22,7 @@ pub enum Error {
     Character,
     /// 8: a PIN block comes from no permitted PIN.
     NoSuchPin,
-    /// 9: the two halves of a derivation key are the same without the low bit of each byte.
+    /// 9: the two halves of a derivation key agree without the low bit of each byte.
     EqualHalves,
     /// 10: host counter is 0 or has more than ten one bits.
     BadCounter,
@@ -87,7 +87,7 @@ impl Error {
             Error::NoSuchPin => (8, "a PIN block comes from no permitted PIN"),
             Error::EqualHalves => (
                 9,
-                "the two halves of a derivation key are the same without the low bit of each byte",
+                "the two halves of a derivation key agree without the low bit of each byte",
             ),
             Error::BadCounter => (10, "host counter is 0 or has more than ten one bits"),
             Error::BadRecord => (11, "terminal state does not hang together"),

@@ -46,7 +46,7 @@ module _ (derivation : List ℕ) (bytes : Digits 256 derivation) where
   right-bytes : Digits 256 (drop 8 derivation)
   right-bytes k = rw (getD-drop 8 derivation k 0) (bytes (8 + k))
 
-  -- they are the same exactly if each byte of the left one is that of the right one without the low bit
+  -- they agree exactly if each byte of the left one, without its low bit, is that of the right one
   pub halves-same : (sameHalves derivation ≡ true) ↔ ((k : ℕ) → k < 8 → getD derivation k 0 / 2 ≡ getD derivation (8 + k) 0 / 2)
   halves-same =
       let at : (k : ℕ) → getD (drop 8 derivation) k 0 / 2 ≡ getD derivation (8 + k) 0 / 2 = λ k. rw (getD-drop 8 derivation k 0) in (

@@ -13,7 +13,7 @@ use Rattle.registers.specs.Counters.{permitted?}
 use Rattle.host.specs.SerialNumber.{counterOf}
 use Rattle.host.specs.Derivation.{initialKeyOf, hostKeyOf}
 
--- the halves of a derivation key are the same without the low bit of each byte (02, M-104)
+-- the halves of a derivation key agree without the low bit of each byte (02, M-104)
 abbrev pub sameHalves : List ℕ → Bool
 sameHalves derivation = sameKey (left derivation) (right derivation)
 
@@ -21,7 +21,7 @@ sameHalves derivation = sameKey (left derivation) (right derivation)
 abbrev pub countable : ℕ → Bool
 countable c = ite (permitted? c) true false
 
--- the eight bytes of the initial key, or the refusal: 6 for another size, 9 for halves that are the same without low bits
+-- the eight bytes of the initial key, or the refusal: 6 for another size, 9 for halves that agree without low bits
 unfoldable pub initialKey : List ℕ → List ℕ → Result (List ℕ)
 initialKey derivation serial =
     require (eqb (length derivation) 16) size

@@ -21,7 +21,7 @@ fn initial_word(derivation: &[u8], serial: &[u8]) -> u64
 }
 
 // The initial key of the terminal with that serial number. Refuses with 6 if the derivation key does not have 16 bytes or the serial number 10,
-// 9 if the halves of the derivation key are the same without the low bit of each byte.
+// 9 if the halves of the derivation key agree without the low bit of each byte.
 pub fn initial_key(derivation: &[u8], serial: &[u8]) -> lent::Block
     ensures { λ r. ⌜ Answered 8 (initialKey (now (derivation .entry)) (now (serial .entry))) (r .number) (r .value) ⌝ }
 {

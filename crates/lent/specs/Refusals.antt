@@ -18,7 +18,7 @@ pub data Refusal : Type 0 where
   character : Refusal
   -- a PIN block comes from no permitted PIN
   noSuchPin : Refusal
-  -- the two halves of a derivation key are the same without the low bit of each byte
+  -- the two halves of a derivation key agree without the low bit of each byte
   equalHalves : Refusal
   -- host counter is 0 or has more than ten one bits
   badCounter : Refusal

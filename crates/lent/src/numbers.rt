@@ -27,7 +27,7 @@ pub const CHARACTER: u32 = 7;
 // A PIN block comes from no permitted PIN.
 pub const NO_SUCH_PIN: u32 = 8;
 
-// The two halves of a derivation key are the same without the low bit of each byte.
+// The two halves of a derivation key agree without the low bit of each byte.
 pub const EQUAL_HALVES: u32 = 9;
 
 // Host counter is 0 or has more than ten one bits.

@@ -62,7 +62,7 @@ MAC asked over a text that is empty after cleaning
 a length or size is outside its range
 a character is not a digit, or not hexadecimal, where one is asked
 a PIN block comes from no permitted PIN
-the two halves of a derivation key are the same without the low bit of each byte
+the two halves of a derivation key agree without the low bit of each byte
 host counter is 0 or has more than ten one bits
 terminal state does not hang together
 terminal exhausted

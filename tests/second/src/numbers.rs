@@ -19,7 +19,7 @@ pub const SIZE: u8 = 6;
 pub const CHARACTER: u8 = 7;
 /// A PIN block comes from no permitted PIN.
 pub const NO_SUCH_PIN: u8 = 8;
-/// The two halves of a derivation key are the same without the low bit of each byte.
+/// The two halves of a derivation key agree without the low bit of each byte.
 pub const EQUAL_HALVES: u8 = 9;
 /// Host counter is 0 or has more than ten one bits.
 pub const BAD_COUNTER: u8 = 10;
@@ -41,7 +41,7 @@ const MEANINGS: [&str; 14] = [
     "a length or size is outside its range",
     "a character is not a digit, or not hexadecimal, where one is asked",
     "a PIN block comes from no permitted PIN",
-    "the two halves of a derivation key are the same without the low bit of each byte",
+    "the two halves of a derivation key agree without the low bit of each byte",
     "host counter is 0 or has more than ten one bits",
     "terminal state does not hang together",
     "terminal exhausted",
