@@ -45,10 +45,11 @@ turned-keeps h =
 abbrev twice : ℕ → ℕ
 twice x = turn 1 (turn 1 x)
 
--- the key from two round keys: a test that computes
+-- the bits of a key, taken from two round keys
 from-two : ℕ → ℕ → ℕ
 from-two first second = permuted 96 standing (bitXor (first * 2 ^ 48) second)
 
+-- each bit but the low ones is there: a test that computes
 all-found : (key : ℕ) → key < 2 ^ 64 → from-two (turned (turn 1) key) (turned twice key) ≡ bitAnd key keyMask
 unfolding agreeing from-two turned turn permuted
 all-found =
@@ -56,7 +57,7 @@ all-found =
     let second = turned-keeps (after (turn-keeps 1) (turn-keeps 1)) in
     agree Unit (after (selection 96 standing) (sum (after (shl 48) first) second)) (mask keyMask) 64 tt
 
--- what f turns C and D into is what g makes of them by rotations
+-- where g rotates as f turns, it is the round key of FIPS 46-3
 turned-is : {f : ℕ → ℕ} (g : ℕ → ℕ) (key : ℕ) → ((x : ℕ) → f x < 2 ^ 28) → ((x : ℕ) → x < 2 ^ 28 → f x ≡ g x)
     → let x = permuted 64 permutedChoice1 key in turned f key ≡ permuted 56 permutedChoice2 (g (x / 2 ^ 28) * 2 ^ 28 + g (x % 2 ^ 28))
 unfolding turned
@@ -72,6 +73,7 @@ once-rotates x h = turn-rotates 1 x (lit≤ tt) h
 twice-rotates : (x : ℕ) → x < 2 ^ 28 → twice x ≡ rotatedLeft 1 (rotatedLeft 1 x)
 twice-rotates x h = once-rotates (turn 1 x) (turn-lt 1 x) ∙ ap (rotatedLeft 1) (once-rotates x h)
 
+-- the first two round keys give the key with its low bits cleared
 found : (key : ℕ) → key < 2 ^ 64 → from-two (getD (roundKeys key) 0 0) (getD (roundKeys key) 1 0) ≡ bitAnd key keyMask
 unfolding roundKeys keysFrom
 found key h =
@@ -79,7 +81,8 @@ found key h =
     (sym (turned-is (λ x. rotatedLeft 1 (rotatedLeft 1 x)) key (λ x. turn-lt 1 (turn 1 x)) twice-rotates))
     ∙ all-found key h
 
-pub same-keys : (key other : ℕ) → key < 2 ^ 64 → other < 2 ^ 64 → roundKeys key ≡ roundKeys other → sameKey key other ≡ true
-same-keys key other h k e =
+-- keys with the same round keys are the same
+pub recovered-same : (key other : ℕ) → key < 2 ^ 64 → other < 2 ^ 64 → roundKeys key ≡ roundKeys other → sameKey key other ≡ true
+recovered-same key other h k e =
     sym (masked-same key other)
     ∙ eq-eqb _ _ (sym (found key h) ∙ ap (λ (keys : List ℕ). from-two (getD keys 0 0) (getD keys 1 0)) e ∙ found other k)
