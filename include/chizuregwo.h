@@ -4,7 +4,7 @@
  * DES and two-key triple DES, key entry, the MAC of a text and of an online message, PIN blocks, chip-card keys and
  * cryptograms, and DUKPT on the host and in the terminal. C99 and C++. Link with libchizuregwo.a.
  *
- * Every entry but czg_version has one shape: what it reads (bytes lent as a pointer and a size; a number in five
+ * Every entry but czg_version has one shape: what it reads (bytes lent as a pointer and a size; a number in six
  * entries), what it writes (bytes lent as a pointer and a size), and an answer by value. A key that is used comes first.
  * No entry keeps a pointer, allocates, or holds any state between calls, so entries may be called from several threads at
  * once.
@@ -19,7 +19,8 @@
  * The caller sees to it that no pointer is null, even where its size is 0; that the bytes are there for the whole size;
  * and that a buffer which is written overlaps no other buffer of the same call.
  *
- * The low bit of each key byte has no effect on the cipher. It is never checked or set.
+ * The low bit of each key byte has no effect on the cipher. It is set in a card key alone, where each byte gets an odd
+ * number of ones, and checked in no key.
  */
 #ifndef CHIZUREGWO_H
 #define CHIZUREGWO_H
@@ -214,16 +215,26 @@ czg_answer czg_pin_decrypt_with_card(const uint8_t *key, size_t key_size, const 
 czg_answer czg_derivation_data(const uint8_t *card, size_t card_size, uint32_t sequence, uint8_t *out, size_t out_size);
 
 /*
- * The card key: under a master key of 16 bytes, triple DES of Y, then of Y with all bits turned. No parity is set. Writes
- * 16 bytes.
+ * The card key: under a master key of 16 bytes, triple DES of Y, then of Y with all bits turned; and then the low bit of
+ * each byte is turned that has an even number of ones, so that every byte has an odd number. Writes 16 bytes.
  * Refusals: 6 (master key, card number, sequence), 7, 13.
  */
 czg_answer czg_card_key(const uint8_t *master_key, size_t master_key_size, const uint8_t *card, size_t card_size,
                         uint32_t sequence, uint8_t *out, size_t out_size);
 
 /*
+ * The card key before its parity is set, for comparison with lists of such keys. It has the same session keys, and so the
+ * same cryptograms. Writes 16 bytes.
+ * Refusals: 6 (master key, card number, sequence), 7, 13.
+ */
+czg_answer czg_card_key_unadjusted(const uint8_t *master_key, size_t master_key_size,
+                                   const uint8_t *card, size_t card_size, uint32_t sequence,
+                                   uint8_t *out, size_t out_size);
+
+/*
  * The session key: under a card key of 16 bytes, triple DES of six zero bytes and the transaction counter, then of the
- * same with the counter's bits turned. Writes 16 bytes.
+ * same with the counter's bits turned. The low bits of the card key's bytes have no effect, and no parity is set on the
+ * session key. Writes 16 bytes.
  * Refusals: 6, 13.
  */
 czg_answer czg_session_key(const uint8_t *card_key, size_t card_key_size, uint16_t counter,

@@ -92,7 +92,9 @@ int main(void)
          4, text("1234"));
 
     same("derivation_data", czg_derivation_data(text("6228000100001"), 13, 1, out, room), 8, hex("0622800010000101"));
-    same("card_key", czg_card_key(hex("F0C34A8124CEE0A91A0B034AA97D6EAC"), 16, text("6228000100001"), 13, 1, out, room),
+    same("card_key", czg_card_key(hex("0123456789ABCDEFFEDCBA9876543210"), 16, text("4219876543210987"), 16, 0, out, room),
+         16, hex("9249345E0220CEBA0D20D6A2453BF407"));
+    same("card_key_unadjusted", czg_card_key_unadjusted(hex("F0C34A8124CEE0A91A0B034AA97D6EAC"), 16, text("6228000100001"), 13, 1, out, room),
          16, hex("014D996FCC8F49157DC8B49E3BCDFD99"));
     same("session_key", czg_session_key(hex("014D996FCC8F49157DC8B49E3BCDFD99"), 16, 0x0240, out, room),
          16, hex("D4102725E6E5AD329E55AAB50BF23DA9"));

@@ -65,6 +65,8 @@ extern "C" {
     fn czg_derivation_data(card: Bytes, card_size: usize, sequence: u32, out: Buffer, out_size: usize) -> Answer;
     fn czg_card_key(master_key: Bytes, master_key_size: usize, card: Bytes, card_size: usize,
         sequence: u32, out: Buffer, out_size: usize) -> Answer;
+    fn czg_card_key_unadjusted(master_key: Bytes, master_key_size: usize, card: Bytes, card_size: usize,
+        sequence: u32, out: Buffer, out_size: usize) -> Answer;
     fn czg_session_key(card_key: Bytes, card_key_size: usize, counter: u16, out: Buffer, out_size: usize) -> Answer;
     fn czg_arqc(session_key: Bytes, session_key_size: usize, data: Bytes, data_size: usize,
         out: Buffer, out_size: usize) -> Answer;
@@ -197,6 +199,16 @@ pub fn card_key(
     out: &mut [u8],
 ) -> Result<usize, Error> {
     call!(czg_card_key(master_key, card; sequence) into out)
+}
+
+/// [`card_key_unadjusted`](crate::card_key_unadjusted) into a buffer.
+pub fn card_key_unadjusted(
+    master_key: &[u8],
+    card: &[u8],
+    sequence: u32,
+    out: &mut [u8],
+) -> Result<usize, Error> {
+    call!(czg_card_key_unadjusted(master_key, card; sequence) into out)
 }
 
 /// [`session_key`](crate::session_key) into a buffer.

@@ -264,24 +264,47 @@ pub fn derivation_data(card: &[u8], sequence: u32) -> Result<Block, Error> {
     fixed(|out| lent::derivation_data(card, sequence, out))
 }
 
-/// The card key: under a master key of 16 bytes, triple DES of Y, then of Y with all bits turned. Refusals: 6, 7.
+/// The card key: under a master key of 16 bytes, triple DES of Y, then of Y with all bits turned; and then the low bit of
+/// each byte is turned that has an even number of ones, so that every byte has an odd number. Refusals: 6, 7.
 ///
 /// ```
 /// use chizuregwo::{card_key, key_entry};
-/// let master_key = key_entry(b"F0C34A8124CEE0A91A0B034AA97D6EAC", 16)?;
-/// let key = card_key(&master_key, b"6228000100001", 1)?;
-/// assert_eq!(key.to_vec(), key_entry(b"014D996FCC8F49157DC8B49E3BCDFD99", 16)?);
+/// let master_key = key_entry(b"0123456789ABCDEFFEDCBA9876543210", 16)?;
+/// let key = card_key(&master_key, b"4219876543210987", 0)?;
+/// assert_eq!(key.to_vec(), key_entry(b"9249345E0220CEBA0D20D6A2453BF407", 16)?);
+/// assert!(key.iter().all(|byte| byte.count_ones() % 2 == 1));
 /// # Ok::<(), chizuregwo::Error>(())
 /// ```
 pub fn card_key(master_key: &[u8], card: &[u8], sequence: u32) -> Result<DoubleKey, Error> {
     fixed(|out| lent::card_key(master_key, card, sequence, out))
 }
 
-/// The session key of a transaction counter, under a card key of 16 bytes. Refusals: 6.
+/// The card key before its parity is set, for comparison with lists of such keys. It has the same session keys, and so the
+/// same cryptograms. Refusals: 6, 7.
+///
+/// ```
+/// use chizuregwo::{card_key, card_key_unadjusted, key_entry, session_key};
+/// let master_key = key_entry(b"F0C34A8124CEE0A91A0B034AA97D6EAC", 16)?;
+/// let key = card_key_unadjusted(&master_key, b"6228000100001", 1)?;
+/// assert_eq!(key.to_vec(), key_entry(b"014D996FCC8F49157DC8B49E3BCDFD99", 16)?);
+/// let adjusted = card_key(&master_key, b"6228000100001", 1)?;
+/// assert_eq!(session_key(&adjusted, 0x0240)?, session_key(&key, 0x0240)?);
+/// # Ok::<(), chizuregwo::Error>(())
+/// ```
+pub fn card_key_unadjusted(
+    master_key: &[u8],
+    card: &[u8],
+    sequence: u32,
+) -> Result<DoubleKey, Error> {
+    fixed(|out| lent::card_key_unadjusted(master_key, card, sequence, out))
+}
+
+/// The session key of a transaction counter, under a card key of 16 bytes. The low bits of the card key's bytes have no
+/// effect, and no parity is set on the session key. Refusals: 6.
 ///
 /// ```
 /// use chizuregwo::{key_entry, session_key};
-/// let card_key = key_entry(b"014D996FCC8F49157DC8B49E3BCDFD99", 16)?;
+/// let card_key = key_entry(b"014C986ECD8F49157CC8B59E3BCDFD98", 16)?;
 /// let key = session_key(&card_key, 0x0240)?;
 /// assert_eq!(key.to_vec(), key_entry(b"D4102725E6E5AD329E55AAB50BF23DA9", 16)?);
 /// # Ok::<(), chizuregwo::Error>(())

@@ -171,14 +171,17 @@ fn card_keys_and_cryptograms() {
     assert_eq!(derivation_data(b"62280001000x1", 99), Err(Error::Character));
     let master = hex("F0C34A8124CEE0A91A0B034AA97D6EAC");
     let card = card_key(&master, b"6228000100001", 1);
-    same(card, "014D996FCC8F49157DC8B49E3BCDFD99");
-    assert_eq!(card_key(&master[..8], CARD, 0), Err(Error::Size));
-    assert_eq!(
-        card_key(&master, b"62280001000x1", 0),
-        Err(Error::Character)
-    );
+    same(card, "014C986ECD8F49157CC8B59E3BCDFD98");
+    let unadjusted = card_key_unadjusted(&master, b"6228000100001", 1);
+    same(unadjusted, "014D996FCC8F49157DC8B49E3BCDFD99");
+    for entry in [card_key, card_key_unadjusted] {
+        assert_eq!(entry(&master[..8], CARD, 0), Err(Error::Size));
+        assert_eq!(entry(&master, CARD, 100), Err(Error::Size));
+        assert_eq!(entry(&master, b"62280001000x1", 0), Err(Error::Character));
+    }
     let session = session_key(&card.unwrap(), 0x0240);
     same(session, "D4102725E6E5AD329E55AAB50BF23DA9");
+    assert_eq!(session_key(&unadjusted.unwrap(), 0x0240), session);
     assert_eq!(session_key(&master[..8], 0), Err(Error::Size));
     let session = session.unwrap();
     let data = "000000000001000000000000015600800460000156140701001E78EEBC7D00024003A04002";

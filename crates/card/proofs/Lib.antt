@@ -1,3 +1,4 @@
--- The steps of the proofs.
+-- The steps of the proofs, and the laws that docs/RULES.md cites.
 mod Derivations
 mod Paddings
+pub mod Laws

@@ -9,6 +9,7 @@ use Rattle.lent.specs.Characters.{digit}
 use Rattle.lent.specs.Refusals.{size, character}
 use Rattle.lent.specs.Result.{Result, done, require, andThen}
 use Rattle.lent.specs.Words.{word, wordBytes}
+use Rattle.parity.specs.Parity.{adjusted}
 use Rattle.card.specs.Cryptograms.{arqcWord, arpcWord}
 use Rattle.card.specs.Derivation.{sequenceRange, derivationWord}
 use Rattle.card.specs.DoubleKey.{doubleSize, derivedKey}
@@ -23,11 +24,15 @@ derivationData card sequence =
     (require (all digit card) character
     (done (wordBytes (derivationWord card sequence)))))
 
--- the card key: triple DES of Y, then of Y with all bits turned, under the master key
-unfoldable pub cardKey : List ℕ → List ℕ → ℕ → Result (List ℕ)
-cardKey master card sequence =
+-- the card key before its parity is set: triple DES of Y, then of Y with all bits turned, under the master key
+unfoldable pub unadjustedCardKey : List ℕ → List ℕ → ℕ → Result (List ℕ)
+unadjustedCardKey master card sequence =
     require (doubleSize master) size
     (andThen (derivationData card sequence) (λ y. done (derivedKey master (word y) (turned 64 (word y)))))
+
+-- the card key: the same with an odd number of ones in every byte (02, M-103)
+unfoldable pub cardKey : List ℕ → List ℕ → ℕ → Result (List ℕ)
+cardKey master card sequence = andThen (unadjustedCardKey master card sequence) (λ key. done (adjusted key))
 
 -- the session key: triple DES of the counter with six zero bytes before it, then of the same with the counter's bits turned, under the
 -- card key

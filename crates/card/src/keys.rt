@@ -27,10 +27,10 @@ fn derived_key(key: &[u8], first: u64, second: u64) -> lent::DoubleBlock
     }
 }
 
-// The card key of a card number and sequence under the master key. Refuses with 6 if the master key does not have 16 bytes, the card number
-// does not have 13 to 19 characters or the sequence is above 99, 7 if a character is not a digit.
-pub fn card_key(master: &[u8], card: &[u8], sequence: u32) -> lent::DoubleBlock
-    ensures { λ r. ⌜ Answered 16 (Entries.cardKey (now (master .entry)) (now (card .entry)) sequence) (r .number) (r .value) ⌝ }
+// The card key of a card number and sequence under the master key, before its parity is set. Refuses with 6 if the master key does not have 16
+// bytes, the card number does not have 13 to 19 characters or the sequence is above 99, 7 if a character is not a digit.
+pub fn unadjusted_card_key(master: &[u8], card: &[u8], sequence: u32) -> lent::DoubleBlock
+    ensures { λ r. ⌜ Answered 16 (Entries.unadjustedCardKey (now (master .entry)) (now (card .entry)) sequence) (r .number) (r .value) ⌝ }
 {
     if master.len() != 16 {
         return lent::refused_double_block(lent::SIZE);
@@ -42,6 +42,22 @@ pub fn card_key(master: &[u8], card: &[u8], sequence: u32) -> lent::DoubleBlock
     let bytes = data.value;
     let y = lent::word_of(&bytes);
     derived_key(master, y, !y)
+}
+
+// The card key, with an odd number of ones in every byte. Refuses as the unadjusted one.
+pub fn card_key(master: &[u8], card: &[u8], sequence: u32) -> lent::DoubleBlock
+    ensures { λ r. ⌜ Answered 16 (Entries.cardKey (now (master .entry)) (now (card .entry)) sequence) (r .number) (r .value) ⌝ }
+{
+    let key = unadjusted_card_key(master, card, sequence);
+    if key.number != lent::DONE {
+        return lent::refused_double_block(key.number);
+    }
+    let mut value = key.value;
+    parity::adjust(&mut value);
+    lent::DoubleBlock {
+        number: lent::DONE,
+        value,
+    }
 }
 
 // The session key of a transaction counter under the card key. Refuses with 6 if the card key does not have 16 bytes.

@@ -8,3 +8,4 @@ pub use cryptograms::arqc;
 pub use derivation::derivation_data;
 pub use keys::card_key;
 pub use keys::session_key;
+pub use keys::unadjusted_card_key;

@@ -37,6 +37,7 @@ answers a b c x =
     ∷ Pin.decryptWithCard a b c
     ∷ Card.derivationData a (x % 4294967296)
     ∷ Card.cardKey a b (x % 4294967296)
+    ∷ Card.unadjustedCardKey a b (x % 4294967296)
     ∷ Card.sessionKey a (x % 65536)
     ∷ Card.arqc a b
     ∷ Card.arpc a b c

@@ -18,10 +18,10 @@ ghost use Rattle.czg.specs.Calls.{answerAt};
 ghost use Rattle.czg.specs.Private.{Within, answerFor};
 
 // The place of `terminal-next-key`, which has two values and a record to be changed.
-pub(crate) const NEXT_KEY: usize = 24;
+pub(crate) const NEXT_KEY: usize = 25;
 
 // The place of `self-test`, which has no value.
-pub(crate) const SELF_TEST: usize = 25;
+pub(crate) const SELF_TEST: usize = 26;
 
 // The cipher, key entry, texts and MACs.
 fn text_entry(place: usize, a: &[u8], b: &[u8], c: &[u8], x: u64, out: &mut [u8]) -> lent::Answer
@@ -58,25 +58,26 @@ fn pin_entry(place: usize, a: &[u8], b: &[u8], c: &[u8], x: u64, out: &mut [u8])
 
 // A card's keys and cryptograms; the host's derivations; the loading of a terminal; a number's meaning. Numbers are in their range, as they were read.
 fn key_entry(place: usize, a: &[u8], b: &[u8], c: &[u8], x: u64, out: &mut [u8]) -> lent::Answer
-    requires { ⌜ (15 ≤ place) × (place < 24) ⌝ }
+    requires { ⌜ (15 ≤ place) × (place < 25) ⌝ }
     ensures { λ r. ⌜ Written (answerAt place (now (a .entry)) (now (b .entry)) (now (c .entry)) x) (now (out .entry)) (r .number) (r .length) (now (out .exit)) ⌝ }
 {
     match place {
         15 => cards::czg_derivation_data(a, (x % 4294967296) as u32, out),
         16 => cards::czg_card_key(a, b, (x % 4294967296) as u32, out),
-        17 => cards::czg_session_key(a, (x % 65536) as u16, out),
-        18 => cards::czg_arqc(a, b, out),
-        19 => cards::czg_arpc(a, b, c, out),
-        20 => hosts::czg_initial_key(a, b, out),
-        21 => hosts::czg_host_key(a, b, out),
-        22 => terminals::czg_terminal_load(a, b, out),
+        17 => cards::czg_card_key_unadjusted(a, b, (x % 4294967296) as u32, out),
+        18 => cards::czg_session_key(a, (x % 65536) as u16, out),
+        19 => cards::czg_arqc(a, b, out),
+        20 => cards::czg_arpc(a, b, c, out),
+        21 => hosts::czg_initial_key(a, b, out),
+        22 => hosts::czg_host_key(a, b, out),
+        23 => terminals::czg_terminal_load(a, b, out),
         _ => messages::czg_meaning((x % 4294967296) as u32, out),
     }
 }
 
 // Calls an entry that writes one value.
 fn call(place: usize, a: &[u8], b: &[u8], c: &[u8], x: u64, out: &mut [u8]) -> lent::Answer
-    requires { ⌜ place < 24 ⌝ }
+    requires { ⌜ place < 25 ⌝ }
     ensures { λ r. ⌜ Written (answerAt place (now (a .entry)) (now (b .entry)) (now (c .entry)) x) (now (out .entry)) (r .number) (r .length) (now (out .exit)) ⌝ }
 {
     if place < 7 {
@@ -91,7 +92,7 @@ fn call(place: usize, a: &[u8], b: &[u8], c: &[u8], x: u64, out: &mut [u8]) -> l
 // Whether an entry's value is a text or the digits of a PIN.
 fn is_text(place: usize) -> bool {
     match place {
-        3 | 4 | 9 | 10 | 13 | 14 | 23 => true,
+        3 | 4 | 9 | 10 | 13 | 14 | 24 => true,
         _ => false,
     }
 }
@@ -117,7 +118,7 @@ fn call_with_room(
     bytes: &[u8],
     value: &mut [u8],
 ) -> lent::Answer
-    requires { ⌜ place < 24 ⌝ }
+    requires { ⌜ place < 25 ⌝ }
     requires { ⌜ Within i (length (now bytes)) ⌝ }
     requires { ⌜ room ≤ length (now value) ⌝ }
     ensures { λ r. ⌜ Written (answerFor place i (now (bytes .entry))) (take room (now (value .entry))) (r .number) (r .length) (take room (now (value .exit))) ⌝ }
@@ -137,7 +138,7 @@ fn call_with_room(
 
 // Answers a request with one value.
 fn answer_one(place: usize, i: Inputs, room: usize, bytes: &[u8], out: &mut [u8], n: usize) -> usize
-    requires { ⌜ place < 24 ⌝ }
+    requires { ⌜ place < 25 ⌝ }
     requires { ⌜ Within i (length (now bytes)) ⌝ }
     requires { ⌜ room ≤ 1024 ⌝ }
     requires { ⌜ n ≤ length (now out) ⌝ }

@@ -42,6 +42,7 @@ pin-decrypt KEY BLOCK
 pin-decrypt-with-card KEY BLOCK CARD
 derivation-data CARD SEQUENCE
 card-key MASTER-KEY CARD SEQUENCE
+card-key-unadjusted MASTER-KEY CARD SEQUENCE
 session-key CARD-KEY COUNTER
 arqc SESSION-KEY DATA
 arpc SESSION-KEY ARQC CODE

@@ -1,57 +1,35 @@
 -- The halves of a derivation key (02, M-104): which are refused with 9, and why.
-use borrow.Author.Tests.{eqb-true, eq-eqb}
-use mathlib.Core.Bool.{Bool, true, false, not, _&&_, and-eq-true-iff}
+use mathlib.Core.Bool.{Bool, true, false, not}
 use mathlib.Core.List.{List}
-use mathlib.Core.Logic.{_↔_, by-cases}
+use mathlib.Core.Logic.{_↔_}
 use mathlib.Core.Path.{_≡_, refl, sym, _∙_}
-use Prim.Native.Nat.{ℕ, zero, suc, _+_, _*_, _/_, _<_}
-use native.Mathlib.Decide.{decLt}
+use Prim.Native.Nat.{ℕ, _+_, _/_, _<_}
 use native.Mathlib.Omega.{arith}
 use lib.Dec.{eqb}
 use lib.ListN.{length, getD, drop}
 use lib.Seq.{getD-drop}
 use Rattle.lent.specs.Refusals.{size, equalHalves, badCounter}
 use Rattle.lent.specs.Result.{Result, done, refused, number, require, andThen}
-use Rattle.lent.specs.Words.{left, right, fromBase}
-use Rattle.lent.proofs.Bases.{Digits, from-lt}
+use Rattle.lent.specs.Words.{left, right}
+use Rattle.lent.proofs.Bases.{Digits, digits-drop, from-lt}
 use Rattle.cipher.specs.Des.{encrypted, decrypted}
-use Rattle.cipher.specs.Keys.{sameBytes}
 use Rattle.cipher.specs.Schedule.{roundKeys}
 use Rattle.cipher.specs.Triple.{tripleEncrypted, tripleDecrypted}
-use Rattle.cipher.proofs.Laws.{same-none, same-more, round-keys-same, triple-encrypted-single, triple-decrypted-single}
+use Rattle.cipher.proofs.Laws.{round-keys-same, triple-encrypted-single, triple-decrypted-single}
+use Rattle.parity.proofs.LowBits.{each-byte, same-bytes}
 use Rattle.host.specs.SerialNumber.{counterOf}
 use Rattle.host.specs.Entries.{sameHalves, countable, initialKey, hostKey}
 
--- ---- as bytes
-
-module _ (s t : List ℕ) (hs : Digits 256 s) (ht : Digits 256 t) where
-  last-and-rest : (n : ℕ) → sameBytes (suc n) (fromBase 256 (suc n) s) (fromBase 256 (suc n) t)
-      ≡ (eqb (getD s n 0 / 2) (getD t n 0 / 2) && sameBytes n (fromBase 256 n s) (fromBase 256 n t))
-  unfolding fromBase
-  last-and-rest n = same-more n (fromBase 256 n s) (fromBase 256 n t) (getD s n 0) (getD t n 0) (hs n) (ht n)
-
-  all-bytes : (n : ℕ) → sameBytes n (fromBase 256 n s) (fromBase 256 n t) ≡ true → (k : ℕ) → k < n → getD s k 0 / 2 ≡ getD t k 0 / 2
-  all-bytes zero e k h = omega arith
-  all-bytes (suc n) e k h =
-      let p = and-eq-true-iff _ _ .0 (sym (last-and-rest n) ∙ e) in
-      by-cases (decLt k n) (all-bytes n (p .1) k)
-      (λ g. let i : k ≡ n = omega arith in rw i (eqb-true _ _ (p .0)))
-
-  from-bytes : (n : ℕ) → ((k : ℕ) → k < n → getD s k 0 / 2 ≡ getD t k 0 / 2) → sameBytes n (fromBase 256 n s) (fromBase 256 n t) ≡ true
-  from-bytes zero f = same-none _ _
-  from-bytes (suc n) f =
-      last-and-rest n ∙ and-eq-true-iff _ _ .1 (eq-eqb _ _ (f n (omega arith)), from-bytes n (λ k h. f k (omega arith)))
-
 module _ (derivation : List ℕ) (bytes : Digits 256 derivation) where
   right-bytes : Digits 256 (drop 8 derivation)
-  right-bytes k = rw (getD-drop 8 derivation k 0) (bytes (8 + k))
+  right-bytes = digits-drop 256 8 derivation bytes
 
   -- they agree exactly if each byte of the left one, without its low bit, is that of the right one
   pub halves-same : (sameHalves derivation ≡ true) ↔ ((k : ℕ) → k < 8 → getD derivation k 0 / 2 ≡ getD derivation (8 + k) 0 / 2)
   halves-same =
       let at : (k : ℕ) → getD (drop 8 derivation) k 0 / 2 ≡ getD derivation (8 + k) 0 / 2 = λ k. rw (getD-drop 8 derivation k 0) in (
-        λ e k h. all-bytes derivation (drop 8 derivation) bytes right-bytes 8 e k h ∙ at k,
-        λ f. from-bytes derivation (drop 8 derivation) bytes right-bytes 8 (λ k h. f k h ∙ sym (at k)),
+        λ e k h. each-byte derivation (drop 8 derivation) bytes right-bytes 8 e k h ∙ at k,
+        λ f. same-bytes derivation (drop 8 derivation) bytes right-bytes 8 (λ k h. f k h ∙ sym (at k)),
       )
 
   round-keys : (sameHalves derivation ≡ true) ↔ (roundKeys (left derivation) ≡ roundKeys (right derivation))

@@ -8,8 +8,8 @@ use native.Mathlib.Nat.{add-zero, add-suc, suc-add, pow-zero, pow-suc, pow-succ'
 use native.Mathlib.Omega.{arith}
 use lib.Arith.{digits-div, digits-mod, digits-lt, mod-mul}
 use lib.Dec.{lit<}
-use lib.ListN.{length, getD}
-use lib.Seq.{ext-getD}
+use lib.ListN.{length, getD, drop}
+use lib.Seq.{ext-getD, getD-drop}
 use Rattle.lent.specs.Choice.{all}
 use Rattle.lent.specs.Words.{byte, fromBase, toBase, word, wordBytes}
 
@@ -30,6 +30,10 @@ module _ (b : ℕ) where
   -- each digit of s is below the base
   abbrev pub Digits : List ℕ → Type 0
   Digits s = (k : ℕ) → getD s k 0 < b
+
+  -- so is each after the first k
+  pub digits-drop : (k : ℕ) (s : List ℕ) → Digits s → Digits (drop k s)
+  digits-drop k s d i = rw (getD-drop k s i 0) (d (k + i))
 
   -- n digits are a number below the base to the power n
   pub from-lt : (n : ℕ) (s : List ℕ) → Digits s → fromBase b n s < b ^ n

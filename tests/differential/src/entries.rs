@@ -153,6 +153,14 @@ fn sequence(random: &mut Random) -> u64 {
     }
 }
 
+/// A master key, a card number and a sequence.
+fn card_key_input(random: &mut Random) -> Input {
+    Input {
+        parts: vec![random.sized(16), card_number(random)],
+        number: sequence(random),
+    }
+}
+
 fn card_data(random: &mut Random) -> Vec<u8> {
     let length = match random.below(12) {
         0 => random.one_of(&[0, 256, 257, 300]),
@@ -247,7 +255,7 @@ pub fn meaning_of(number: u32) -> Input {
 }
 
 /// Every entry that writes one buffer. The shares make a thousand with those of the terminal's next key.
-pub const ENTRIES: [Entry; 24] = [
+pub const ENTRIES: [Entry; 25] = [
     MEANING,
     Entry {
         name: "encrypt",
@@ -356,7 +364,7 @@ pub const ENTRIES: [Entry; 24] = [
     },
     Entry {
         name: "derivation_data",
-        share: 40,
+        share: 25,
         input: |random| Input {
             parts: vec![card_number(random)],
             number: sequence(random),
@@ -366,13 +374,17 @@ pub const ENTRIES: [Entry; 24] = [
     },
     Entry {
         name: "card_key",
-        share: 25,
-        input: |random| Input {
-            parts: vec![random.sized(16), card_number(random)],
-            number: sequence(random),
-        },
+        share: 20,
+        input: card_key_input,
         library: |i, out| lent::card_key(&i.parts[0], &i.parts[1], sequence_of(i), out),
         second: |i| card::card_key(&i.parts[0], &i.parts[1], sequence_of(i)),
+    },
+    Entry {
+        name: "card_key_unadjusted",
+        share: 20,
+        input: card_key_input,
+        library: |i, out| lent::card_key_unadjusted(&i.parts[0], &i.parts[1], sequence_of(i), out),
+        second: |i| card::card_key_unadjusted(&i.parts[0], &i.parts[1], sequence_of(i)),
     },
     Entry {
         name: "session_key",

@@ -33,11 +33,28 @@ fn two_halves(key: &[u8], first: [u8; 8], second: [u8; 8]) -> Vec<u8> {
     [triple_encrypt(&key, &first), triple_encrypt(&key, &second)].concat()
 }
 
-/// Card key: triple DES of Y, then of Y with all bits turned: 6, 7.
-pub fn card_key(master: &[u8], card: &[u8], sequence: u32) -> Answer {
+/// A byte with an odd number of ones: the seven high bits as they are, and the
+/// low bit that they ask for.
+fn odd(byte: u8) -> u8 {
+    let mut low = 1;
+    for bit in 1..8 {
+        low ^= byte >> bit & 1;
+    }
+    byte & 0xFE | low
+}
+
+/// Card key before its parity is set: triple DES of Y, then of Y with all bits
+/// turned: 6, 7.
+pub fn card_key_unadjusted(master: &[u8], card: &[u8], sequence: u32) -> Answer {
     require(master.len() == 16, SIZE)?;
     let y = y(card, sequence)?;
     Ok(two_halves(master, y, turned(y)))
+}
+
+/// Card key, with an odd number of ones in every byte (02, M-103): 6, 7.
+pub fn card_key(master: &[u8], card: &[u8], sequence: u32) -> Answer {
+    let key = card_key_unadjusted(master, card, sequence)?;
+    Ok(key.into_iter().map(odd).collect())
 }
 
 /// The two halves of a session key before encryption: the counter with six

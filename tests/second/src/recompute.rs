@@ -35,7 +35,7 @@ fn next_key(answer: Result<NextKey, u8>) -> Result<String, String> {
 
 /// Every request, by its name.
 #[rustfmt::skip]
-const REQUESTS: [(&str, Compute); 26] = [
+const REQUESTS: [(&str, Compute); 27] = [
     ("meaning", |i, r| text(numbers::meaning(i.number()?), r)),
 
     ("encrypt", |i, r| bytes(entries::encrypt(&i.bytes()?, &i.bytes()?), r)),
@@ -65,6 +65,9 @@ const REQUESTS: [(&str, Compute); 26] = [
 
     ("derivation-data", |i, r| bytes(card::derivation_data(&i.characters()?, i.number()?), r)),
     ("card-key", |i, r| bytes(card::card_key(&i.bytes()?, &i.characters()?, i.number()?), r)),
+    ("card-key-unadjusted", |i, r| {
+        bytes(card::card_key_unadjusted(&i.bytes()?, &i.characters()?, i.number()?), r)
+    }),
     ("session-key", |i, r| bytes(card::session_key(&i.bytes()?, i.number::<u16>()?.to_be_bytes()), r)),
     ("arqc", |i, r| bytes(card::arqc(&i.bytes()?, &i.bytes()?), r)),
     ("arpc", |i, r| bytes(card::arpc(&i.bytes()?, &i.bytes()?, &i.bytes()?), r)),

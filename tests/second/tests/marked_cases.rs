@@ -236,3 +236,19 @@ fn derivation_data_of_long_card_numbers() {
     let y = card::derivation_data(b"12345678901234", 7);
     assert_eq!(y, Ok(hex("1234567890123407")));
 }
+
+/// The bytes of card keys are those with an odd number of ones, and all of them
+/// come up.
+#[test]
+fn card_keys_have_odd_parity() {
+    let master = hex("0123456789ABCDEFFEDCBA9876543210");
+    let mut times = [0; 256];
+    for n in 0..2000 {
+        let card = format!("{n:013}");
+        let key = card::card_key(&master, card.as_bytes(), 0).unwrap();
+        key.iter().for_each(|byte| times[usize::from(*byte)] += 1);
+    }
+    for (byte, times) in times.iter().enumerate() {
+        assert_eq!(*times > 0, byte.count_ones() % 2 == 1, "{byte:02X}");
+    }
+}

@@ -103,15 +103,18 @@ fn document_000_pin_blocks() {
     assert_eq!(made(b"1234567890123456"), Ok(hex("0612713176FEDCBA")));
 }
 
+/// It prints the key twice, with odd and with even parity: every low bit
+/// differs.
 #[test]
-fn document_001_card_key_low_bits_aside() {
+fn document_001_card_key() {
     let master = hex("0123456789ABCDEFFEDCBA9876543210");
     let key = card::card_key(&master, b"4219876543210987", 0).unwrap();
-    let without_low_bits = |key: Vec<u8>| -> Vec<u8> { key.iter().map(|b| b & 0xFE).collect() };
-    let odd = hex("9249345E0220CEBA0D20D6A2453BF407");
-    let even = hex("9348355F0321CFBB0C21D7A3443AF506");
-    assert_eq!(without_low_bits(key.clone()), without_low_bits(odd));
-    assert_eq!(without_low_bits(key), without_low_bits(even));
+    assert_eq!(key, hex("9249345E0220CEBA0D20D6A2453BF407"));
+    let even: Vec<u8> = key.iter().map(|b| b ^ 1).collect();
+    assert_eq!(even, hex("9348355F0321CFBB0C21D7A3443AF506"));
+    let unadjusted = card::card_key_unadjusted(&master, b"4219876543210987", 0).unwrap();
+    let same = |(a, b): (&u8, &u8)| a >> 1 == b >> 1;
+    assert!(unadjusted.iter().zip(&key).all(same));
 }
 
 #[test]
@@ -155,10 +158,16 @@ fn document_002_current_key() {
 #[test]
 fn document_004_keys_and_cryptograms() {
     let master = hex("F0C34A8124CEE0A91A0B034AA97D6EAC");
+    let unadjusted = card::card_key_unadjusted(&master, b"6228000100001", 1).unwrap();
+    assert_eq!(unadjusted, hex("014D996FCC8F49157DC8B49E3BCDFD99"));
     let card_key = card::card_key(&master, b"6228000100001", 1).unwrap();
-    assert_eq!(card_key, hex("014D996FCC8F49157DC8B49E3BCDFD99"));
-    let session_key = card::session_key(&card_key, [0x02, 0x40]).unwrap();
+    assert_ne!(card_key, unadjusted);
+    let session_key = card::session_key(&unadjusted, [0x02, 0x40]).unwrap();
     assert_eq!(session_key, hex("D4102725E6E5AD329E55AAB50BF23DA9"));
+    assert_eq!(
+        card::session_key(&card_key, [0x02, 0x40]),
+        Ok(session_key.clone())
+    );
     let data = hex("0000000000010000000000000156008004600001561407010\
                     01E78EEBC7D00024003A04002");
     let arqc = card::arqc(&session_key, &data).unwrap();

@@ -234,8 +234,10 @@ fn card_6_7() {
     assert_eq!(card::derivation_data(b"421987654321098x", 100), Err(6));
     assert_eq!(card::derivation_data(CARD, u32::MAX), Err(6));
     assert_eq!(card::derivation_data(b"421987654321098x", 99), Err(7));
-    assert_eq!(card::card_key(KEY, b"421987654321098x", 0), Err(6));
-    assert_eq!(card::card_key(DOUBLE, b"421987654321098x", 0), Err(7));
+    for entry in [card::card_key, card::card_key_unadjusted] {
+        assert_eq!(entry(KEY, b"421987654321098x", 0), Err(6));
+        assert_eq!(entry(DOUBLE, b"421987654321098x", 0), Err(7));
+    }
     assert_eq!(card::session_key(KEY, [0, 1]), Err(6));
     assert_eq!(card::arqc(KEY, b"x"), Err(6));
     assert_eq!(card::arqc(DOUBLE, b""), Err(6));

@@ -1,37 +1,29 @@
 -- `card_key` meets its contract.
 use borrow.Author.Needs.{needs}
-use borrow.Author.Tests.{eq-eqb, ne-eqb}
-use mathlib.Core.Path.{refl}
-use Rattle.lent.specs.Refusals.{size}
-use Rattle.lent.proofs.Results.{answered-done, answered-refused, refused-double-block}
-use Rattle.card.specs.Entries.{derivationData, cardKey}
-use Rattle.card.specs.Turned.{turned}
+use Rattle.lent.proofs.Results.{answered-done, answered-refused, refuses-then, refused-double-block}
+use Rattle.card.specs.Entries.{unadjustedCardKey, cardKey}
 use Rattle.card.proofs.keys.card_key.Statement.{statement}
 use Rattle.card.proofs.keys.card_key.Tie as tie
 
 returns : tie.Need-returns
 unfolding cardKey
-returns c = refused-double-block (c .refused-double-block .ensures) (size, refl, simp (ne-eqb _ _ (c .before .if1 .taken)))
+returns c =
+    let u = c .before .before .before in
+    let a = u .before .before .before .args in
+    let r = unadjustedCardKey (a .master .now) (a .card .now) (a .sequence) in
+    refused-double-block (c .refused-double-block .ensures) (refuses-then _ (answered-refused 16 r (u .unadjusted-card-key .ensures) (c .before .if1 .taken)))
 
 returns-2 : tie.Need-returns-2
 unfolding cardKey
 returns-2 c =
-    let d = c .before .before .before in
-    let a = d .before .before .before .before .args in
-    let k = answered-refused 8 (derivationData (a .card .now) (a .sequence)) (d .derivation-data .ensures) (c .before .if2 .taken) in
-    refused-double-block (c .refused-double-block2 .ensures) (k .0, k .1, simp (eq-eqb _ _ (d .before .if1 .left), k .2))
-
-returns-3 : tie.Need-returns-3
-unfolding cardKey turned
-returns-3 c =
-    let d = c .before .before .before .before .before .before in
-    let a = d .before .before .before .before .args in
-    let r = d .derivation-data .ensures in
-    let e = answered-done 8 (derivationData (a .card .now) (a .sequence)) r (c .before .before .before .before .if2 .left) in
-    simp (eq-eqb _ _ (d .before .if1 .left), e, ← c .before .word-of .ensures) (c .derived-key .ensures)
+    let b = c .before .before .before .before in
+    let u = b .before .before in
+    let a = u .before .before .before .args in
+    let r = unadjustedCardKey (a .master .now) (a .card .now) (a .sequence) in
+    let e = answered-done 16 r (u .unadjusted-card-key .ensures) (b .if1 .left) in
+    record { number = rw e; value = rw e (c .before .adjust .ensures) }
 
 pub card-key-spec : {M : Type 1} → statement M
 card-key-spec =
     tie.close
-    (tie.spec (λ c κs. search needs) returns (λ c κs. search needs) (λ c κs. search needs) returns-2
-    (λ c. search needs) (λ c κs. search needs) (λ c κs. search needs) returns-3)
+    (tie.spec (λ c κs. search needs) (λ c κs. search needs) returns (λ c. search needs) (λ c κs. search needs) returns-2)

@@ -6,12 +6,12 @@ use Rattle.czg.proofs.Bounds.{past, exactly}
 use Rattle.czg.proofs.calls.key_entry.Statement.{statement}
 use Rattle.czg.proofs.calls.key_entry.Tie as tie
 
-returns-9 : tie.Need-returns-9
+returns-10 : tie.Need-returns-10
 unfolding answerAt answers
-returns-9 c =
+returns-10 c =
     let s = c .before .before .before .before .before .before .before .before .before in
     let r = c .before .before .before .before .match .rest in
-    let e : s .args .place ≡ 23 = exactly (past (past (past (past (past (past (past (past (s .pre .0) (r .0 .0 .0 .0 .0 .0 .0 .1)) (r .0 .0 .0 .0 .0 .0 .1)) (r .0 .0 .0 .0 .0 .1)) (r .0 .0 .0 .0 .1)) (r .0 .0 .0 .1)) (r .0 .0 .1)) (r .0 .1)) (r .1)) (s .pre .1) in
+    let e : s .args .place ≡ 24 = exactly (past (past (past (past (past (past (past (past (past (s .pre .0) (r .0 .0 .0 .0 .0 .0 .0 .0 .1)) (r .0 .0 .0 .0 .0 .0 .0 .1)) (r .0 .0 .0 .0 .0 .0 .1)) (r .0 .0 .0 .0 .0 .1)) (r .0 .0 .0 .0 .1)) (r .0 .0 .0 .1)) (r .0 .0 .1)) (r .0 .1)) (r .1)) (s .pre .1) in
     rw e (c .before .before .czg-meaning .ensures)
 
 pub key-entry-spec : {M : Type 1} → statement M
@@ -19,13 +19,15 @@ unfolding answerAt answers
 key-entry-spec =
     tie.close
     (tie.spec (λ c. search needs) (λ c κs. search needs) (λ c. search needs) (λ c κs. search needs) (λ c. search needs) (λ c κs. search needs)
+    (λ c. search needs) (λ c κs. search needs)
     (λ c κs. search needs) (λ c κs. search needs) (λ c κs. search needs) (λ c κs. search needs) (λ c κs. search needs)
     (λ c. search needs) (λ c κs. search needs) (λ c. search needs) (λ c. rw (c .before .before .before .before .match .keys1) (c .before .before .czg-derivation-data .ensures))
     (λ c. search needs) (λ c. rw (c .before .before .before .before .match .keys2) (c .before .before .czg-card-key .ensures))
-    (λ c. search needs) (λ c. rw (c .before .before .before .before .match .keys3) (c .before .before .czg-session-key .ensures))
-    (λ c. search needs) (λ c. rw (c .before .before .before .before .match .keys4) (c .before .before .czg-arqc .ensures))
-    (λ c. search needs) (λ c. rw (c .before .before .before .before .match .keys5) (c .before .before .czg-arpc .ensures))
-    (λ c. search needs) (λ c. rw (c .before .before .before .before .match .keys6) (c .before .before .czg-initial-key .ensures))
-    (λ c. search needs) (λ c. rw (c .before .before .before .before .match .keys7) (c .before .before .czg-host-key .ensures))
-    (λ c. search needs) (λ c. rw (c .before .before .before .before .match .keys8) (c .before .before .czg-terminal-load .ensures))
-    (λ c. search needs) returns-9)
+    (λ c. search needs) (λ c. rw (c .before .before .before .before .match .keys3) (c .before .before .czg-card-key-unadjusted .ensures))
+    (λ c. search needs) (λ c. rw (c .before .before .before .before .match .keys4) (c .before .before .czg-session-key .ensures))
+    (λ c. search needs) (λ c. rw (c .before .before .before .before .match .keys5) (c .before .before .czg-arqc .ensures))
+    (λ c. search needs) (λ c. rw (c .before .before .before .before .match .keys6) (c .before .before .czg-arpc .ensures))
+    (λ c. search needs) (λ c. rw (c .before .before .before .before .match .keys7) (c .before .before .czg-initial-key .ensures))
+    (λ c. search needs) (λ c. rw (c .before .before .before .before .match .keys8) (c .before .before .czg-host-key .ensures))
+    (λ c. search needs) (λ c. rw (c .before .before .before .before .match .keys9) (c .before .before .czg-terminal-load .ensures))
+    (λ c. search needs) returns-10)
