@@ -1,6 +1,6 @@
 -- Laws on the parity of card keys (02, M-103): which key is the card key, and that the session key and the cryptograms do not notice.
 use mathlib.Core.Bool.{true}
-use mathlib.Core.List.{List, _++_}
+use mathlib.Core.List.{List}
 use mathlib.Core.Logic.{_↔_}
 use mathlib.Core.Path.{_≡_, refl, sym, ap, _∙_, subst}
 use Prim.Native.Nat.{ℕ}
@@ -9,14 +9,14 @@ use lib.ListN.{length, length-map}
 use Rattle.lent.specs.Choice.{all}
 use Rattle.lent.specs.Refusals.{size}
 use Rattle.lent.specs.Result.{Result, done, refused, number, andThen}
-use Rattle.lent.specs.Words.{byte, wordBytes}
+use Rattle.lent.specs.Words.{byte}
 use Rattle.lent.proofs.Bases.{Digits, to-bytes}
 use Rattle.lent.proofs.Lists.{all-append, elements-below}
 use Rattle.lent.proofs.Results.{same-done, require-done, then-done}
 use Rattle.parity.specs.Parity.{oddParity, adjusted, withoutLowBits}
 use Rattle.parity.proofs.Laws.{odd-parity, low-bits-alone, no-other}
 use Rattle.parity.proofs.LowBits.{same-triple}
-use Rattle.card.specs.DoubleKey.{doubleSize, derivedKey}
+use Rattle.card.specs.DoubleKey.{doubleSize}
 use Rattle.card.specs.Entries.{derivationData, unadjustedCardKey, cardKey, sessionKey, arqc, arpc}
 
 -- ---- keys that agree but for low bits have the same session keys
