@@ -30,7 +30,7 @@ unadjustedCardKey master card sequence =
     require (doubleSize master) size
     (andThen (derivationData card sequence) (λ y. done (derivedKey master (word y) (turned 64 (word y)))))
 
--- the card key: the same with an odd number of ones in every byte (02, M-103)
+-- the card key: the same, adjusted to an odd number of ones in every byte (02, M-103)
 unfoldable pub cardKey : List ℕ → List ℕ → ℕ → Result (List ℕ)
 cardKey master card sequence = andThen (unadjustedCardKey master card sequence) (λ key. done (adjusted key))
 

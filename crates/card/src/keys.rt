@@ -44,7 +44,7 @@ pub fn unadjusted_card_key(master: &[u8], card: &[u8], sequence: u32) -> lent::D
     derived_key(master, y, !y)
 }
 
-// The card key, with an odd number of ones in every byte. Refuses as the unadjusted one.
+// The card key, adjusted to an odd number of ones in every byte. Refuses with 6 and 7 as the unadjusted one.
 pub fn card_key(master: &[u8], card: &[u8], sequence: u32) -> lent::DoubleBlock
     ensures { λ r. ⌜ Answered 16 (Entries.cardKey (now (master .entry)) (now (card .entry)) sequence) (r .number) (r .value) ⌝ }
 {
