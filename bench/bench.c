@@ -369,7 +369,7 @@ static uint64_t library_clean(size_t count)
     uint64_t sum = 0;
     uint8_t out[1024];
     for (size_t i = 0; i < count; i++) {
-        czg_answer answer = czg_clean(texts[i % TEXTS], 1024, out, sizeof out);
+        czg_text_answer answer = czg_clean(texts[i % TEXTS], 1024, out, sizeof out);
         must((int)answer.number, "czg_clean");
         sum = add(add(sum, out), out + answer.length - 8);
     }

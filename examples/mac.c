@@ -1,6 +1,7 @@
 /*
- * mac [FILE]: the MAC text and the MAC of one message, and a PIN block. FILE holds eight bytes of MAC key and then the
- * message; without it they come from standard input. Ends with status 1 after a refusal.
+ * mac [FILE]: the MAC text and the MAC of one message, what cleaning threw away of the text, and a PIN block. FILE holds
+ * eight bytes of MAC key and then the message; without it they come from standard input. Ends with status 1 after a
+ * refusal.
  *
  *   cc -I build -o mac examples/mac.c build/libchizuregwo.a
  */
@@ -9,14 +10,14 @@
 
 #include "chizuregwo.h"
 
-/* Whether an entry was done; if not, prints what was refused and why. */
-static int done(const char *what, czg_answer answer)
+/* Whether the number of an answer is done; if not, prints what was refused and why. */
+static int done(const char *what, uint32_t number)
 {
     uint8_t meaning[CZG_MOST_MEANING];
-    if (answer.number == CZG_DONE)
+    if (number == CZG_DONE)
         return 1;
-    czg_answer written = czg_meaning(answer.number, meaning, sizeof meaning);
-    printf("%s: refused %u: %.*s\n", what, (unsigned)answer.number, (int)written.length, (const char *)meaning);
+    czg_answer written = czg_meaning(number, meaning, sizeof meaning);
+    printf("%s: refused %u: %.*s\n", what, (unsigned)number, (int)written.length, (const char *)meaning);
     return 0;
 }
 
@@ -47,18 +48,19 @@ int main(int argc, char **argv)
     size_t message_size = size - key_size;
 
     /* The MAC first: it refuses a short key, and all that the text refuses. */
-    czg_answer answer = czg_message_mac(input, key_size, message, message_size, mac, sizeof mac);
-    if (!done("mac", answer))
+    czg_text_answer cleaned = czg_message_mac(input, key_size, message, message_size, mac, sizeof mac);
+    if (!done("mac", cleaned.number))
         return 1;
-    answer = czg_message_text(message, message_size, text, sizeof text);
-    if (!done("text", answer))
+    cleaned = czg_message_text(message, message_size, text, sizeof text);
+    if (!done("text", cleaned.number))
         return 1;
-    printf("text %.*s\n", (int)answer.length, (const char *)text);
+    printf("text %.*s\n", (int)cleaned.length, (const char *)text);
     print_hex("mac", mac, sizeof mac);
+    printf("dropped %zu spaces %zu\n", cleaned.dropped, cleaned.spaces);
 
-    answer = czg_pin_encrypt_with_card(pin_key, CZG_DOUBLE_KEY_SIZE, pin, strlen((const char *)pin),
-                                       card, strlen((const char *)card), block, sizeof block);
-    if (!done("pin block", answer))
+    czg_answer answer = czg_pin_encrypt_with_card(pin_key, CZG_DOUBLE_KEY_SIZE, pin, strlen((const char *)pin),
+                                                  card, strlen((const char *)card), block, sizeof block);
+    if (!done("pin block", answer.number))
         return 1;
     print_hex("pin block", block, answer.length);
     return 0;

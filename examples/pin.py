@@ -26,7 +26,7 @@ except OSError:
 
 
 class Answer(ctypes.Structure):
-    """What an entry answers."""
+    """czg_answer, which every entry called here answers."""
 
     _fields_ = [("number", ctypes.c_uint32), ("length", ctypes.c_size_t)]
 

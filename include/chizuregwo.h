@@ -11,7 +11,8 @@
  *
  * Done:    number is CZG_DONE and length says how many bytes were written, from the start of the buffer. The buffer's
  *          bytes after these are left as they were.
- * Refused: number is one of 1 to 13, length is 0, and NO BUFFER IS WRITTEN: every byte is left as it was.
+ * Refused: number is one of 1 to 13, every other member of the answer is 0, and NO BUFFER IS WRITTEN: every byte is left
+ *          as it was.
  *
  * Where several refusals apply, the number given is the first in the order that stands with the entry. CZG_SHORT_BUFFER
  * (13) is always the last.
@@ -87,11 +88,23 @@ extern "C" {
 #define CZG_RECORD_COUNTER 182
 #define CZG_RECORD_EXHAUSTED 186
 
-/* What every entry but czg_version answers. */
+/* What every entry answers but czg_version and those that clean a text. */
 typedef struct czg_answer {
     uint32_t number; /* CZG_DONE or the refusal's number */
     size_t length;   /* bytes written; 0 on a refusal */
 } czg_answer;
+
+/*
+ * What czg_clean, czg_message_text, czg_text_mac and czg_message_mac answer, which clean a text. Both counts are over the
+ * text before cleaning; a message's is the joined one, with the length digits and the spaces between fields. That text has
+ * as many bytes as the cleaned one, plus dropped, plus spaces.
+ */
+typedef struct czg_text_answer {
+    uint32_t number; /* CZG_DONE or the refusal's number */
+    size_t length;   /* bytes written; 0 on a refusal */
+    size_t dropped;  /* bytes that are no letter of either case, digit, space, comma or full stop; 0 on a refusal */
+    size_t spaces;   /* spaces, less those of the cleaned text; 0 on a refusal */
+} czg_text_answer;
 
 /* ---- The library itself ---- */
 
@@ -128,14 +141,14 @@ czg_answer czg_decrypt(const uint8_t *key, size_t key_size, const uint8_t *block
  */
 czg_answer czg_key_entry(const uint8_t *text, size_t text_size, size_t bytes_wanted, uint8_t *out, size_t out_size);
 
-/* ---- Texts, messages and their MACs ---- */
+/* ---- Texts, messages and their MACs. Each answer says what cleaning threw away. ---- */
 
 /*
  * Cleans a text of 0 to 1,024 bytes: small letters become capitals; only A to Z, 0 to 9, space, comma and full stop stay;
  * after that, spaces at both ends go and each run of spaces becomes one. Writes the cleaned text, which may be empty.
  * Refusals: 6, 13.
  */
-czg_answer czg_clean(const uint8_t *text, size_t text_size, uint8_t *out, size_t out_size);
+czg_text_answer czg_clean(const uint8_t *text, size_t text_size, uint8_t *out, size_t out_size);
 
 /*
  * The MAC text of an online message of 1 to 4,096 bytes. A message is records: body length in two bytes, field number in
@@ -144,22 +157,22 @@ czg_answer czg_clean(const uint8_t *text, size_t text_size, uint8_t *out, size_t
  * most 166 bytes.
  * Refusals: 6, 1 (an empty message too), 2, 4, 3 (of one record 1, 2, 4, 3 before any of the next), 13.
  */
-czg_answer czg_message_text(const uint8_t *message, size_t message_size, uint8_t *out, size_t out_size);
+czg_text_answer czg_message_text(const uint8_t *message, size_t message_size, uint8_t *out, size_t out_size);
 
 /*
  * The MAC of a free text of 0 to 1,024 bytes under a key of 8 bytes: the text is cleaned and filled with zero bytes to a
  * multiple of 8; CBC-MAC from zero, all 8 bytes (ISO/IEC 9797-1, algorithm 1). Writes 8 bytes.
  * Refusals: 6 (key, text), 5, 13.
  */
-czg_answer czg_text_mac(const uint8_t *key, size_t key_size, const uint8_t *text, size_t text_size,
-                        uint8_t *out, size_t out_size);
+czg_text_answer czg_text_mac(const uint8_t *key, size_t key_size, const uint8_t *text, size_t text_size,
+                             uint8_t *out, size_t out_size);
 
 /*
  * The MAC of a message under a key of 8 bytes: of its MAC text, as above. Writes 8 bytes.
  * Refusals: 6 (key, message), 1 (an empty message too), 2, 4, 3 (of one record 1, 2, 4, 3 before any of the next), 13.
  */
-czg_answer czg_message_mac(const uint8_t *key, size_t key_size, const uint8_t *message, size_t message_size,
-                           uint8_t *out, size_t out_size);
+czg_text_answer czg_message_mac(const uint8_t *key, size_t key_size, const uint8_t *message, size_t message_size,
+                                uint8_t *out, size_t out_size);
 
 /* ---- PIN blocks. A PIN is 4 to 12 text digits, a card number 13 to 19; a card number's last digit has no effect on a block. ---- */
 

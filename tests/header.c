@@ -1,4 +1,4 @@
-/* Calls every entry once through the header, as C declares it, on a published or marked case, and makes each kind of refusal. */
+/* Calls every entry through the header, as C declares it, on a published or marked case, and makes each kind of refusal. */
 #include <stdio.h>
 #include <string.h>
 
@@ -48,9 +48,36 @@ static void refused(const char *what, czg_answer answer, uint32_t number)
     memset(out, 0xA5, sizeof out);
 }
 
+/* Both counts of an answer must be these. */
+static void counted(const char *what, czg_text_answer answer, size_t dropped, size_t spaces)
+{
+    if (answer.dropped != dropped || answer.spaces != spaces) {
+        printf("header: FAILED: %s: dropped %zu, spaces %zu where %zu and %zu were to be\n", what, answer.dropped, answer.spaces,
+               dropped, spaces);
+        failures++;
+    }
+}
+
+/* The answer of an entry that cleans a text must be done with these bytes and these counts. */
+static void same_text(const char *what, czg_text_answer answer, size_t size, const uint8_t *bytes, size_t dropped, size_t spaces)
+{
+    same(what, (czg_answer){answer.number, answer.length}, size, bytes);
+    counted(what, answer, dropped, spaces);
+}
+
+/* The answer of an entry that cleans a text must be this refusal, with both counts 0. */
+static void refused_text(const char *what, czg_text_answer answer, uint32_t number)
+{
+    refused(what, (czg_answer){answer.number, answer.length}, number);
+    counted(what, answer, 0, 0);
+}
+
 int main(void)
 {
     static const char card_digits[] = "4219876543210987", message[] = "\x04\0\0\0" "0200";
+    /* Two bytes and three spaces of its field 41 go out. */
+    static const char changed[] = "\x04\0\0\0" "0200" "\x08\0\x29\0" "a - b - ";
+    static const uint8_t long_text[CZG_MOST_TEXT + 1];
     const uint8_t *card = text(card_digits);
     size_t room = sizeof out;
     memset(out, 0xA5, room);
@@ -68,15 +95,25 @@ int main(void)
     refused("encrypt", czg_encrypt(hex("133457799BBCDFF1"), 7, hex("0123456789ABCDEF"), 8, out, room), CZG_SIZE);
     same("key_entry", czg_key_entry(text("0123456789abcDEF"), 16, 8, out, room), 8, hex("0123456789ABCDEF"));
     refused("key_entry", czg_key_entry(text("0123456789abcDEG"), 16, 8, out, room), CZG_CHARACTER);
-    same("clean", czg_clean(text("a - b"), 5, out, room), 3, text("A B"));
-    same("message_text", czg_message_text(text(message), 8, out, room), 4, text("0200"));
-    refused("message_text, empty", czg_message_text(text(message), 0, out, room), CZG_CUT_SHORT);
-    refused("message_text, field 1", czg_message_text(text("\0\0\1\0"), 4, out, room), CZG_FIELD_ORDER);
-    refused("message_text, type", czg_message_text(text("\4\0\0\0" "0300"), 8, out, room), CZG_MESSAGE_TYPE);
-    refused("message_text, form", czg_message_text(text("\4\0\0\0" "02x0"), 8, out, room), CZG_FIELD_FORM);
-    same("text_mac", czg_text_mac(hex("0123456789ABCDEF"), 8, text(" -x- "), 5, out, room), 8, hex("C49CF44D534EFBC0"));
-    refused("text_mac", czg_text_mac(hex("0123456789ABCDEF"), 8, text("---"), 3, out, room), CZG_EMPTY_TEXT);
-    same("message_mac", czg_message_mac(hex("0123456789ABCDEF"), 8, text(message), 8, out, room), 8, hex("DB81035675C65160"));
+    same_text("clean", czg_clean(text("a - b"), 5, out, room), 3, text("A B"), 1, 1);
+    same_text("clean, spaces", czg_clean(text("     "), 5, out, room), 0, out, 0, 5);
+    refused_text("clean, size", czg_clean(long_text, sizeof long_text, out, room), CZG_SIZE);
+    refused_text("clean, no room", czg_clean(text("a - b"), 5, out, 2), CZG_SHORT_BUFFER);
+    same_text("message_text", czg_message_text(text(message), 8, out, room), 4, text("0200"), 0, 0);
+    same_text("message_text, changed", czg_message_text(text(changed), 20, out, room), 8, text("0200 A B"), 2, 3);
+    refused_text("message_text, no room", czg_message_text(text(changed), 20, out, 7), CZG_SHORT_BUFFER);
+    refused_text("message_text, empty", czg_message_text(text(message), 0, out, room), CZG_CUT_SHORT);
+    refused_text("message_text, field 1", czg_message_text(text("\0\0\1\0"), 4, out, room), CZG_FIELD_ORDER);
+    refused_text("message_text, type", czg_message_text(text("\4\0\0\0" "0300"), 8, out, room), CZG_MESSAGE_TYPE);
+    refused_text("message_text, form", czg_message_text(text("\4\0\0\0" "02x0"), 8, out, room), CZG_FIELD_FORM);
+    same_text("text_mac", czg_text_mac(hex("0123456789ABCDEF"), 8, text(" -x- "), 5, out, room), 8, hex("C49CF44D534EFBC0"), 2, 2);
+    refused_text("text_mac, empty", czg_text_mac(hex("0123456789ABCDEF"), 8, text("---"), 3, out, room), CZG_EMPTY_TEXT);
+    refused_text("text_mac, no room", czg_text_mac(hex("0123456789ABCDEF"), 8, text(" -x- "), 5, out, 7), CZG_SHORT_BUFFER);
+    same_text("message_mac", czg_message_mac(hex("0123456789ABCDEF"), 8, text(message), 8, out, room), 8, hex("DB81035675C65160"), 0, 0);
+    same_text("message_mac, changed", czg_message_mac(hex("0123456789ABCDEF"), 8, text(changed), 20, out, room),
+              8, hex("A544B5E0D9DE3B60"), 2, 3);
+    refused_text("message_mac, key", czg_message_mac(hex("0123456789ABCDEF"), 7, text(changed), 20, out, room), CZG_SIZE);
+    refused_text("message_mac, no room", czg_message_mac(hex("0123456789ABCDEF"), 8, text(changed), 20, out, 7), CZG_SHORT_BUFFER);
 
     same("pin_make", czg_pin_make(text("1234"), 4, out, room), 8, hex("041234FFFFFFFFFF"));
     refused("pin_make, no room", czg_pin_make(text("1234"), 4, out, 7), CZG_SHORT_BUFFER);

@@ -1,13 +1,26 @@
 //! The entries of the library as they are: bytes lent to be read, bytes lent to be written.
 //!
 //! Done is `Ok` with how many bytes were written from the start of the buffer; the buffer's bytes after these are as they
-//! were. A refusal is `Err`, and every byte of every buffer is as it was.
+//! were. The entries that clean a text also say what cleaning threw away. A refusal is `Err`, and every byte of every buffer
+//! is as it was.
 //!
 //! This is the only module with `unsafe` code.
 
 use crate::Error;
 
-/// What every entry but `czg_version` answers.
+/// What an entry that cleans a text wrote, and what cleaning threw away. Both counts are over the text before cleaning; a
+/// message's is the joined one, with the length digits and the spaces between fields.
+#[derive(Clone, Copy, Debug, PartialEq, Eq)]
+pub struct WrittenText {
+    /// Bytes written from the start of the buffer.
+    pub length: usize,
+    /// Bytes that are no letter of either case, digit, space, comma or full stop.
+    pub dropped: usize,
+    /// Spaces, less those of the cleaned text.
+    pub spaces: usize,
+}
+
+/// What every entry answers but `czg_version` and those that clean a text.
 #[repr(C)]
 struct Answer {
     number: u32,
@@ -21,6 +34,34 @@ impl Answer {
             None => Ok(self.length),
             Some(error) => {
                 debug_assert_eq!(self.length, 0, "the length of a refusal");
+                Err(error)
+            }
+        }
+    }
+}
+
+/// What the entries that clean a text answer.
+#[repr(C)]
+struct TextAnswer {
+    number: u32,
+    length: usize,
+    dropped: usize,
+    spaces: usize,
+}
+
+impl TextAnswer {
+    /// Done with a length and both counts, or the refusal of a number.
+    fn result(self) -> Result<WrittenText, Error> {
+        match Error::from_number(self.number) {
+            None => Ok(WrittenText {
+                length: self.length,
+                dropped: self.dropped,
+                spaces: self.spaces,
+            }),
+            Some(error) => {
+                debug_assert_eq!(self.length, 0, "the length of a refusal");
+                debug_assert_eq!(self.dropped, 0, "the dropped bytes of a refusal");
+                debug_assert_eq!(self.spaces, 0, "the spaces of a refusal");
                 Err(error)
             }
         }
@@ -42,12 +83,12 @@ extern "C" {
     fn czg_decrypt(key: Bytes, key_size: usize, block: Bytes, block_size: usize,
         out: Buffer, out_size: usize) -> Answer;
     fn czg_key_entry(text: Bytes, text_size: usize, bytes_wanted: usize, out: Buffer, out_size: usize) -> Answer;
-    fn czg_clean(text: Bytes, text_size: usize, out: Buffer, out_size: usize) -> Answer;
-    fn czg_message_text(message: Bytes, message_size: usize, out: Buffer, out_size: usize) -> Answer;
+    fn czg_clean(text: Bytes, text_size: usize, out: Buffer, out_size: usize) -> TextAnswer;
+    fn czg_message_text(message: Bytes, message_size: usize, out: Buffer, out_size: usize) -> TextAnswer;
     fn czg_text_mac(key: Bytes, key_size: usize, text: Bytes, text_size: usize,
-        out: Buffer, out_size: usize) -> Answer;
+        out: Buffer, out_size: usize) -> TextAnswer;
     fn czg_message_mac(key: Bytes, key_size: usize, message: Bytes, message_size: usize,
-        out: Buffer, out_size: usize) -> Answer;
+        out: Buffer, out_size: usize) -> TextAnswer;
     fn czg_pin_make(pin: Bytes, pin_size: usize, out: Buffer, out_size: usize) -> Answer;
     fn czg_pin_make_with_card(pin: Bytes, pin_size: usize, card: Bytes, card_size: usize,
         out: Buffer, out_size: usize) -> Answer;
@@ -117,22 +158,22 @@ pub fn key_entry(text: &[u8], bytes_wanted: usize, out: &mut [u8]) -> Result<usi
 }
 
 /// [`clean`](crate::clean) into a buffer.
-pub fn clean(text: &[u8], out: &mut [u8]) -> Result<usize, Error> {
+pub fn clean(text: &[u8], out: &mut [u8]) -> Result<WrittenText, Error> {
     call!(czg_clean(text) into out)
 }
 
 /// [`message_text`](crate::message_text) into a buffer.
-pub fn message_text(message: &[u8], out: &mut [u8]) -> Result<usize, Error> {
+pub fn message_text(message: &[u8], out: &mut [u8]) -> Result<WrittenText, Error> {
     call!(czg_message_text(message) into out)
 }
 
 /// [`text_mac`](crate::text_mac) into a buffer.
-pub fn text_mac(key: &[u8], text: &[u8], out: &mut [u8]) -> Result<usize, Error> {
+pub fn text_mac(key: &[u8], text: &[u8], out: &mut [u8]) -> Result<WrittenText, Error> {
     call!(czg_text_mac(key, text) into out)
 }
 
 /// [`message_mac`](crate::message_mac) into a buffer.
-pub fn message_mac(key: &[u8], message: &[u8], out: &mut [u8]) -> Result<usize, Error> {
+pub fn message_mac(key: &[u8], message: &[u8], out: &mut [u8]) -> Result<WrittenText, Error> {
     call!(czg_message_mac(key, message) into out)
 }
 
@@ -286,6 +327,48 @@ mod tests {
         assert_eq!(result(13, 0), Err(Error::ShortBuffer));
         for number in [14, 255, 256, 256 + 6, u32::MAX] {
             assert_eq!(result(number, 0), Err(Error::Unknown(number)));
+        }
+    }
+
+    /// The result of an answer with these members.
+    fn text_result(
+        number: u32,
+        length: usize,
+        dropped: usize,
+        spaces: usize,
+    ) -> Result<WrittenText, Error> {
+        TextAnswer {
+            number,
+            length,
+            dropped,
+            spaces,
+        }
+        .result()
+    }
+
+    #[test]
+    fn text_answers_of_every_number_are_values() {
+        for (length, dropped, spaces) in [(0, 0, 0), (3, 1, 2), (8, usize::MAX, 0)] {
+            let written = WrittenText {
+                length,
+                dropped,
+                spaces,
+            };
+            assert_eq!(text_result(0, length, dropped, spaces), Ok(written));
+        }
+        assert_eq!(text_result(5, 0, 0, 0), Err(Error::EmptyText));
+        assert_eq!(text_result(13, 0, 0, 0), Err(Error::ShortBuffer));
+        for number in [14, 255, 256, 256 + 6, u32::MAX] {
+            assert_eq!(text_result(number, 0, 0, 0), Err(Error::Unknown(number)));
+        }
+    }
+
+    #[test]
+    #[cfg(debug_assertions)]
+    fn a_refusal_has_no_length_and_no_counts() {
+        for (length, dropped, spaces) in [(1, 0, 0), (0, 1, 0), (0, 0, 1)] {
+            let call = || text_result(13, length, dropped, spaces);
+            assert!(std::panic::catch_unwind(call).is_err());
         }
     }
 }

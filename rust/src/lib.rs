@@ -17,11 +17,37 @@ mod terminal;
 pub use error::Error;
 pub use terminal::{NextKey, SerialNumber, Terminal, RECORD_SIZE};
 
+use lent::WrittenText;
+
 /// A block, a MAC, a cryptogram or a single-length key: 8 bytes.
 pub type Block = [u8; 8];
 
 /// A double-length key, left half first: 16 bytes.
 pub type DoubleKey = [u8; 16];
+
+/// A cleaned text, and what cleaning threw away. Both counts are over the text before cleaning; a message's is the joined
+/// one, with the length digits and the spaces between fields. That text has as many bytes as the cleaned one, plus
+/// `dropped`, plus `spaces`.
+#[derive(Clone, Debug, PartialEq, Eq)]
+pub struct Cleaned {
+    /// The cleaned text.
+    pub text: Vec<u8>,
+    /// Bytes that are no letter of either case, digit, space, comma or full stop.
+    pub dropped: usize,
+    /// Spaces, less those of the cleaned text.
+    pub spaces: usize,
+}
+
+/// The MAC of a cleaned text, and what cleaning threw away, as in [`Cleaned`].
+#[derive(Clone, Copy, Debug, PartialEq, Eq)]
+pub struct TextMac {
+    /// The MAC.
+    pub mac: Block,
+    /// Bytes that are no letter of either case, digit, space, comma or full stop.
+    pub dropped: usize,
+    /// Spaces, less those of the cleaned text.
+    pub spaces: usize,
+}
 
 /// Most characters of a message's MAC text.
 pub const MOST_MESSAGE_TEXT: usize = 166;
@@ -51,6 +77,35 @@ fn at_most(
     let length = entry(&mut out)?;
     out.truncate(length);
     Ok(out)
+}
+
+/// A cleaned text of at most so many bytes.
+fn cleaned(
+    room: usize,
+    entry: impl FnOnce(&mut [u8]) -> Result<WrittenText, Error>,
+) -> Result<Cleaned, Error> {
+    let mut text = vec![0; room];
+    let written = entry(&mut text)?;
+    text.truncate(written.length);
+    Ok(Cleaned {
+        text,
+        dropped: written.dropped,
+        spaces: written.spaces,
+    })
+}
+
+/// The MAC of a cleaned text.
+fn cleaned_mac(
+    entry: impl FnOnce(&mut [u8]) -> Result<WrittenText, Error>,
+) -> Result<TextMac, Error> {
+    let mut mac = [0; 8];
+    let written = entry(&mut mac)?;
+    debug_assert_eq!(written.length, mac.len());
+    Ok(TextMac {
+        mac,
+        dropped: written.dropped,
+        spaces: written.spaces,
+    })
 }
 
 /// The version of the library that is linked: 10,000 times the major number plus 100 times the minor plus the patch.
@@ -117,22 +172,26 @@ pub fn key_entry(text: &[u8], bytes_wanted: usize) -> Result<Vec<u8>, Error> {
 /// stay; after that, spaces at both ends go and each run of spaces becomes one. Refusals: 6.
 ///
 /// ```
-/// assert_eq!(chizuregwo::clean(b"a - b")?, b"A B");
+/// let cleaned = chizuregwo::clean(b"a - b")?;
+/// assert_eq!(cleaned.text, b"A B");
+/// assert_eq!((cleaned.dropped, cleaned.spaces), (1, 1));
 /// # Ok::<(), chizuregwo::Error>(())
 /// ```
-pub fn clean(text: &[u8]) -> Result<Vec<u8>, Error> {
-    at_most(text.len(), |out| lent::clean(text, out))
+pub fn clean(text: &[u8]) -> Result<Cleaned, Error> {
+    cleaned(text.len(), |out| lent::clean(text, out))
 }
 
 /// The MAC text of an online message of 1 to 4,096 bytes. Refusals: 6; then records one at a time, each 1, 2, 4, 3.
 ///
 /// ```
 /// let message = b"\x04\0\0\x000200\x06\0\x03\x00000000\x08\0\x29\0a-1     ";
-/// assert_eq!(chizuregwo::message_text(message)?, b"0200 000000 A1");
+/// let cleaned = chizuregwo::message_text(message)?;
+/// assert_eq!(cleaned.text, b"0200 000000 A1");
+/// assert_eq!((cleaned.dropped, cleaned.spaces), (1, 5));
 /// # Ok::<(), chizuregwo::Error>(())
 /// ```
-pub fn message_text(message: &[u8]) -> Result<Vec<u8>, Error> {
-    at_most(MOST_MESSAGE_TEXT, |out| lent::message_text(message, out))
+pub fn message_text(message: &[u8]) -> Result<Cleaned, Error> {
+    cleaned(MOST_MESSAGE_TEXT, |out| lent::message_text(message, out))
 }
 
 /// The MAC of a free text of 0 to 1,024 bytes under a key of 8, the text being cleaned first. Refusals: 6, 5.
@@ -140,23 +199,27 @@ pub fn message_text(message: &[u8]) -> Result<Vec<u8>, Error> {
 /// ```
 /// use chizuregwo::{text_mac, Error};
 /// let key = [0x01, 0x23, 0x45, 0x67, 0x89, 0xAB, 0xCD, 0xEF];
-/// assert_eq!(text_mac(&key, b"ab  c")?, [0x07, 0x74, 0xE3, 0xFC, 0x85, 0x9D, 0x71, 0xF2]);
+/// let made = text_mac(&key, b"ab  c")?;
+/// assert_eq!(made.mac, [0x07, 0x74, 0xE3, 0xFC, 0x85, 0x9D, 0x71, 0xF2]);
+/// assert_eq!((made.dropped, made.spaces), (0, 1));
 /// assert_eq!(text_mac(&key, b"---"), Err(Error::EmptyText));
 /// # Ok::<(), Error>(())
 /// ```
-pub fn text_mac(key: &[u8], text: &[u8]) -> Result<Block, Error> {
-    fixed(|out| lent::text_mac(key, text, out))
+pub fn text_mac(key: &[u8], text: &[u8]) -> Result<TextMac, Error> {
+    cleaned_mac(|out| lent::text_mac(key, text, out))
 }
 
 /// The MAC of a message under a key of 8 bytes: of its MAC text. Refusals: 6; then records one at a time, each 1, 2, 4, 3.
 ///
 /// ```
 /// let key = [0x01, 0x23, 0x45, 0x67, 0x89, 0xAB, 0xCD, 0xEF];
-/// let mac = [0xDB, 0x81, 0x03, 0x56, 0x75, 0xC6, 0x51, 0x60];
-/// assert_eq!(chizuregwo::message_mac(&key, b"\x04\0\0\x000200"), Ok(mac));
+/// let made = chizuregwo::message_mac(&key, b"\x04\0\0\x000200\x08\0\x29\0--------")?;
+/// assert_eq!(made.mac, [0xDB, 0x81, 0x03, 0x56, 0x75, 0xC6, 0x51, 0x60]);
+/// assert_eq!((made.dropped, made.spaces), (8, 1));
+/// # Ok::<(), chizuregwo::Error>(())
 /// ```
-pub fn message_mac(key: &[u8], message: &[u8]) -> Result<Block, Error> {
-    fixed(|out| lent::message_mac(key, message, out))
+pub fn message_mac(key: &[u8], message: &[u8]) -> Result<TextMac, Error> {
+    cleaned_mac(|out| lent::message_mac(key, message, out))
 }
 
 /// Clear PIN block of a PIN of 4 to 12 digits, without card number. Refusals: 6, 7.

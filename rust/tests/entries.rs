@@ -13,6 +13,34 @@ fn same<const N: usize>(result: Result<[u8; N], Error>, digits: &str) {
     assert_eq!(result.expect("done").to_vec(), hex(digits));
 }
 
+/// A cleaned text with its counts, for comparing.
+fn same_text(result: Result<Cleaned, Error>, text: &[u8], dropped: usize, spaces: usize) {
+    let text = text.to_vec();
+    let wanted = Cleaned {
+        text,
+        dropped,
+        spaces,
+    };
+    assert_eq!(result, Ok(wanted));
+}
+
+/// A MAC as hexadecimal digits with its counts, for comparing.
+fn same_mac(result: Result<TextMac, Error>, digits: &str, dropped: usize, spaces: usize) {
+    let made = result.expect("done");
+    assert_eq!(made.mac.to_vec(), hex(digits));
+    assert_eq!((made.dropped, made.spaces), (dropped, spaces));
+}
+
+/// A message of type 0200 and some fields.
+fn message(fields: &[(u8, &[u8])]) -> Vec<u8> {
+    let mut message = TYPE.to_vec();
+    for (number, body) in fields {
+        message.extend([body.len() as u8, 0, *number, 0]);
+        message.extend(*body);
+    }
+    message
+}
+
 #[test]
 fn encrypt_and_decrypt() {
     let (key, block) = (hex("133457799BBCDFF1"), hex("0123456789ABCDEF"));
@@ -47,29 +75,118 @@ fn keys_from_text() {
     assert_eq!(key_entry(b"0123456789ABCDEG", 8), Err(Error::Character));
 }
 
+/// Texts with what is left of them, the bytes dropped and the spaces that went out.
+const TEXTS: &[(&[u8], &[u8], usize, usize)] = &[
+    (b"ab  c", b"AB C", 0, 1),
+    (b" -x- ", b"X", 2, 2),
+    (b"a - b", b"A B", 1, 1),
+    (b"1,2.3;4", b"1,2.34", 1, 0),
+    (b"---", b"", 3, 0),
+    (b"", b"", 0, 0),
+    // Nothing goes out: small letters count as kept.
+    (b"abcxyz", b"ABCXYZ", 0, 0),
+    (b"AZ az 09, 1.5", b"AZ AZ 09, 1.5", 0, 0),
+    // Spaces alone, at the ends, and in the middle.
+    (b" ", b"", 0, 1),
+    (b"     ", b"", 0, 5),
+    (b"   a", b"A", 0, 3),
+    (b"a  ", b"A", 0, 2),
+    (b"  a   b  ", b"A B", 0, 6),
+    // Bytes that are no space, though they look like one, and the neighbours of those that are kept.
+    (b"\0a\xFF\tb\r\n", b"AB", 5, 0),
+    (b"\xA0a\xE1\x80", b"A", 3, 0),
+    (b"/0:9@A[Z`a{z!-+", b"09AZAZ", 9, 0),
+    // Spaces that meet once the bytes between them are dropped.
+    (b"- - -", b"", 3, 2),
+    (b"a -- - b", b"A B", 3, 2),
+    (b" , . ", b", .", 0, 2),
+];
+
 #[test]
 fn cleaning() {
-    for (text, cleaned) in [
-        ("ab  c", "AB C"),
-        (" -x- ", "X"),
-        ("a - b", "A B"),
-        ("1,2.3;4", "1,2.34"),
-        ("---", ""),
-        ("", ""),
-    ] {
-        assert_eq!(clean(text.as_bytes()), Ok(cleaned.as_bytes().to_vec()));
+    for (text, cleaned, dropped, spaces) in TEXTS {
+        same_text(clean(text), cleaned, *dropped, *spaces);
+        assert_eq!(text.len(), cleaned.len() + dropped + spaces);
     }
-    assert_eq!(clean(&[b'a'; 1024]), Ok(vec![b'A'; 1024]));
+    same_text(clean(&[b'a'; 1024]), &[b'A'; 1024], 0, 0);
+    same_text(clean(&[b'-'; 1024]), b"", 1024, 0);
+    same_text(clean(&[b' '; 1024]), b"", 0, 1024);
     assert_eq!(clean(&[b'-'; 1025]), Err(Error::Size));
 }
 
 #[test]
+fn every_byte_is_kept_or_dropped() {
+    let kept = b"ABCDEFGHIJKLMNOPQRSTUVWXYZabcdefghijklmnopqrstuvwxyz0123456789,.";
+    for byte in 0..=255u8 {
+        let text = [b'x', byte];
+        match byte {
+            b' ' => same_text(clean(&text), b"X", 0, 1),
+            _ if kept.contains(&byte) => {
+                same_text(clean(&text), &[b'X', byte.to_ascii_uppercase()], 0, 0)
+            }
+            _ => same_text(clean(&text), b"X", 1, 0),
+        }
+    }
+}
+
+/// Messages by their fields, with their texts, the bytes dropped and the spaces that went out.
+type MessageCase = (&'static [(u8, &'static [u8])], &'static str, usize, usize);
+
+const MESSAGES: &[MessageCase] = &[
+    (&[], "0200", 0, 0),
+    (&[(3, b"000000"), (41, b"a-1     ")], "0200 000000 A1", 1, 5),
+    // Nothing goes out. Field 5 and the last 22 digits of field 90 are not in the text before cleaning.
+    (&[(2, b"1234567890123")], "0200 131234567890123", 0, 0),
+    (&[(32, b"7"), (33, b"8")], "0200 017 018", 0, 0),
+    (&[(38, b"a1B2c3"), (39, b"z9")], "0200 A1B2C3 Z9", 0, 0),
+    (
+        &[(90, b"012345678901234567890123456789012345678901")],
+        "0200 01234567890123456789",
+        0,
+        0,
+    ),
+    (&[(5, b" - - ")], "0200", 0, 0),
+    // Bytes alone.
+    (&[(42, b"Joe's Fish-&Chi")], "0200 JOES FISHCHI", 3, 0),
+    // Spaces alone: those of a field, and with an empty field the space before it.
+    (&[(41, b" A  B  C")], "0200 A B C", 0, 3),
+    (&[(41, b"        ")], "0200", 0, 9),
+    (
+        &[(41, b"        "), (42, b"               ")],
+        "0200",
+        0,
+        25,
+    ),
+    // Both.
+    (&[(41, b"--------")], "0200", 8, 1),
+    (
+        &[(41, b"--------"), (42, b"SHOP 42 & 43 OK")],
+        "0200 SHOP 42 43 OK",
+        9,
+        2,
+    ),
+    (
+        &[(41, b" - a - b"), (42, b" - c - d - e - ")],
+        "0200 A B C D E",
+        6,
+        9,
+    ),
+];
+
+#[test]
 fn texts_of_messages() {
-    let message = [TYPE, b"\x06\0\x03\x00000000\x08\0\x29\0a-1     "].concat();
-    assert_eq!(message_text(&message), Ok(b"0200 000000 A1".to_vec()));
+    for (fields, text, dropped, spaces) in MESSAGES {
+        same_text(
+            message_text(&message(fields)),
+            text.as_bytes(),
+            *dropped,
+            *spaces,
+        );
+    }
     assert_eq!(message_text(b""), Err(Error::CutShort));
     assert_eq!(message_text(&TYPE[..7]), Err(Error::CutShort));
-    assert_eq!(message_text(&message[8..]), Err(Error::FieldOrder));
+    let no_type = message(&[(3, b"000000")]);
+    assert_eq!(message_text(&no_type[8..]), Err(Error::FieldOrder));
     assert_eq!(message_text(b"\x04\0\0\x000300"), Err(Error::MessageType));
     assert_eq!(message_text(b"\x04\0\0\x0002x0"), Err(Error::FieldForm));
     assert_eq!(message_text(&[0; 4097]), Err(Error::Size));
@@ -78,12 +195,22 @@ fn texts_of_messages() {
 #[test]
 fn macs() {
     let key = hex("0123456789ABCDEF");
-    same(text_mac(&key, b" -x- "), "C49CF44D534EFBC0");
+    same_mac(text_mac(&key, b" -x- "), "C49CF44D534EFBC0", 2, 2);
     assert_eq!(text_mac(&key, b"---"), Err(Error::EmptyText));
+    assert_eq!(text_mac(&key, b"   "), Err(Error::EmptyText));
+    assert_eq!(text_mac(&key, b""), Err(Error::EmptyText));
     assert_eq!(text_mac(&key, &[b'-'; 1025]), Err(Error::Size));
     assert_eq!(text_mac(&key[..7], b"---"), Err(Error::Size));
-    same(message_mac(&key, TYPE), "DB81035675C65160");
-    same(text_mac(&key, b"0200"), "DB81035675C65160");
+    same_mac(message_mac(&key, TYPE), "DB81035675C65160", 0, 0);
+    same_mac(text_mac(&key, b"0200"), "DB81035675C65160", 0, 0);
+    same_mac(text_mac(&key, b" 0-2-0-0 "), "DB81035675C65160", 3, 2);
+    for (fields, text, dropped, spaces) in MESSAGES {
+        let made = message_mac(&key, &message(fields)).expect("done");
+        assert_eq!((made.dropped, made.spaces), (*dropped, *spaces));
+        let of_text = text_mac(&key, text.as_bytes()).expect("done");
+        assert_eq!(of_text.mac, made.mac);
+        assert_eq!((of_text.dropped, of_text.spaces), (0, 0));
+    }
     assert_eq!(message_mac(&key[..7], b""), Err(Error::Size));
     assert_eq!(message_mac(&key, b""), Err(Error::CutShort));
     assert_eq!(message_mac(&key, b"\0\0\x01\0"), Err(Error::FieldOrder));
@@ -236,7 +363,42 @@ fn buffers_keep_their_bytes() {
     assert_eq!(short, [0xA5; 7]);
     assert_eq!(lent::pin_make(b"123", &mut out), Err(Error::Size));
     assert_eq!(out.to_vec(), hex("041234FFFFFFFFFFA5A5A5A5"));
-    assert_eq!(lent::clean(b"--", &mut []), Ok(0));
+}
+
+/// Calls an entry with every room up to 12: 13 where it is short, else this length with these counts, and no byte after it
+/// is written.
+fn in_every_room(
+    (length, dropped, spaces): (usize, usize, usize),
+    entry: impl Fn(&mut [u8]) -> Result<lent::WrittenText, Error>,
+) {
+    let written = lent::WrittenText {
+        length,
+        dropped,
+        spaces,
+    };
+    for room in 0..=12 {
+        let mut out = vec![0xA5; room];
+        let answer = entry(&mut out);
+        let untouched = if room < length {
+            assert_eq!(answer, Err(Error::ShortBuffer));
+            &out[..]
+        } else {
+            assert_eq!(answer, Ok(written));
+            &out[length..]
+        };
+        assert!(untouched.iter().all(|byte| *byte == 0xA5));
+    }
+}
+
+#[test]
+fn cleaned_texts_in_buffers() {
+    let key = hex("0123456789ABCDEF");
+    let message = message(&[(41, b" - a - b")]);
+    in_every_room((0, 2, 0), |out| lent::clean(b"--", out));
+    in_every_room((3, 1, 3), |out| lent::clean(b" a - b ", out));
+    in_every_room((8, 2, 3), |out| lent::message_text(&message, out));
+    in_every_room((8, 1, 3), |out| lent::text_mac(&key, b" a - b ", out));
+    in_every_room((8, 2, 3), |out| lent::message_mac(&key, &message, out));
 }
 
 #[test]

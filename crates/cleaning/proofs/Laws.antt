@@ -1,17 +1,18 @@
 -- Laws on cleaned texts that other crates cite.
 use borrow.Author.Tests.{le-leb, lt-leb, leb-true}
-use mathlib.Core.Path.{_≡_, refl, sym, _∙_}
+use mathlib.Core.Path.{_≡_, refl}
 use mathlib.Core.Bool.{true, false}
 use mathlib.Core.List.{List, [], _∷_, _++_}
-use Prim.Native.Nat.{ℕ, zero, suc, _+_, _-_, _<_, _≤_}
+use Prim.Native.Nat.{ℕ, zero, suc, _-_, _<_, _≤_}
 use native.Mathlib.Omega.{arith}
 use lib.Dec.{leb, eqb}
-use lib.ListN.{length, replicate, length-append, length-replicate}
+use lib.ListN.{length, replicate, length-append}
 use Rattle.lent.specs.Characters.{digit, small, capitalized}
 use Rattle.lent.specs.Result.{done, lend}
 use Rattle.lent.proofs.Laws.{cases, between-true}
 use Rattle.cleaning.specs.Cleaning.{kept, cleaned, cleanText}
 use Rattle.cleaning.proofs.Pass.{pass, cleaned-pass, pass-kept}
+use Rattle.cleaning.proofs.Counting.{sizes}
 
 capitalized-again : (x : ℕ) → capitalized (capitalized x) ≡ capitalized x
 unfolding capitalized
@@ -39,24 +40,9 @@ again (x ∷ s) started owed g h =
 pub cleaned-again : (s : List ℕ) → cleaned (cleaned s) ≡ cleaned s
 cleaned-again s = simp cleaned-pass (again s 0 0 (omega arith) (omega arith))
 
-pass-short : (s : List ℕ) (started owed : ℕ) → started ≤ 1 → length (pass started owed s) ≤ owed + length s
-unfolding pass
-pass-short [] started owed h = omega arith
-pass-short (x ∷ s) started owed h =
-    cases (eqb (capitalized x) 32) (λ e. simp e (omega (arith, pass-short s started started h)))
-    (λ n.
-    cases (kept (capitalized x))
-    (λ k. simp (n, k, length-append, length-replicate) (omega (arith, pass-short s 1 0 (omega arith))))
-    (λ k. simp (n, k) (omega (arith, pass-short s started owed h))))
-
 -- a cleaned text is at most as long as the text
 pub cleaned-short : (s : List ℕ) → length (cleaned s) ≤ length s
-cleaned-short s = simp cleaned-pass (omega (arith, pass-short s 0 0 (omega arith)))
-
--- a space at the start changes nothing
-pub cleaned-space : (s : List ℕ) → cleaned (32 ∷ s) ≡ cleaned s
-unfolding pass capitalized
-cleaned-space s = cleaned-pass (32 ∷ s) ∙ sym (cleaned-pass s)
+cleaned-short s = omega (arith, sizes s)
 
 module _ (x : ℕ) (s : List ℕ) (no-space : capitalized x ≡ 32 → ⊥) (stays : kept (capitalized x) ≡ true) where
   pass-some : (p : List ℕ) (started owed : ℕ) → 0 < length (pass started owed (p ++ x ∷ s))

@@ -1,2 +1,4 @@
 mod Pass
+pub mod Counting
 pub mod Laws
+pub mod Answering

@@ -28,7 +28,7 @@ unfoldable spacing : ℕ → ℕ → List ℕ → List ℕ
 spacing started owed [] = []
 spacing started owed (x ∷ s) = pick (eqb x 32) (spacing started started s) (replicate owed 32 ++ x ∷ spacing 1 0 s)
 
-space-kept : (x : ℕ) → eqb x 32 ≡ true → kept x ≡ true
+pub space-kept : (x : ℕ) → eqb x 32 ≡ true → kept x ≡ true
 unfolding kept
 space-kept x e = rw (eqb-true x 32 e)
 

@@ -1,1 +1,3 @@
 pub mod Cleaning
+pub mod Counts
+pub mod Private

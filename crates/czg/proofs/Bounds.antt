@@ -6,13 +6,15 @@ use native.Mathlib.Nat.{le-trans, min-le-left}
 use native.Mathlib.Omega.{arith}
 use lib.ListN.{length, take, length-take}
 use lib.Seq.{take-at}
-use Rattle.lent.specs.Result.{Result, Written}
+use Rattle.lent.specs.Result.{Result}
 use Rattle.lent.proofs.Results.{written-length}
+use Rattle.cleaning.specs.Counts.{WrittenText}
+use Rattle.cleaning.specs.declared.answers.TextAnswer.{TextAnswer}
 
 -- the same is written where other bytes stand after that memory
-pub taken : {answer : Result (List ℕ)} {before after : List ℕ} {num len : ℕ} (rest : List ℕ) (n : ℕ) → length before ≡ n
-    → Written answer before num len after → Written answer before num len (take n (after ++ rest))
-taken {after = after} rest n e w = rw (take-at after rest n (written-length w ∙ e)) w
+pub taken : {answer raw : Result (List ℕ)} {before after : List ℕ} {r : TextAnswer} (rest : List ℕ) (n : ℕ) → length before ≡ n
+    → WrittenText answer raw before r after → WrittenText answer raw before r (take n (after ++ rest))
+taken {after = after} rest n e w = rw (take-at after rest n (written-length (w .written) ∙ e)) w
 
 -- what lies within the first n bytes is at most n
 pub at-most : (n : ℕ) (s : List ℕ) {k : ℕ} → k ≤ length (take n s) → k ≤ n

@@ -3,11 +3,11 @@ use mathlib.Core.List.{List, [], _∷_}
 use Prim.Native.Nat.{ℕ, _%_}
 use lib.ListN.{getD}
 use Rattle.lent.specs.Refusals.{size}
-use Rattle.lent.specs.Result.{Result, refused}
+use Rattle.lent.specs.Result.{Result, done, refused}
 use Rattle.keyed.specs.Keyed.{encryptBlock, decryptBlock}
 use Rattle.keyentry.specs.KeyEntry.{keyEntry}
 use Rattle.cleaning.specs.Cleaning.{cleanText}
-use Rattle.message.specs.Text.{messageText}
+use Rattle.message.specs.Text.{joinedText, messageText}
 use Rattle.mac.specs.Mac.{textMac, messageMac}
 use Rattle.pinblock.specs.Entries as Pin
 use Rattle.card.specs.Entries as Card
@@ -50,3 +50,11 @@ answers a b c x =
 -- the answer of the entry at a place
 unfoldable pub answerAt : ℕ → List ℕ → List ℕ → List ℕ → ℕ → Result (List ℕ)
 answerAt place a b c x = getD (answers a b c x) place (refused size)
+
+-- The texts that the first entries of the table clean, before they are cleaned: the fourth to the seventh clean one, all others none.
+unfoldable pub texts : List ℕ → List ℕ → List (Result (List ℕ))
+texts a b = done [] ∷ done [] ∷ done [] ∷ done a ∷ joinedText a ∷ done b ∷ joinedText b ∷ []
+
+-- the text of the entry at a place
+unfoldable pub textAt : ℕ → List ℕ → List ℕ → Result (List ℕ)
+textAt place a b = getD (texts a b) place (done [])

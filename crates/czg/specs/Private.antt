@@ -4,7 +4,7 @@ use mathlib.Core.List.{List, _++_}
 use Prim.Native.Nat.{ℕ, _-_, _≤_}
 use lib.ListN.{length, take, drop}
 use Rattle.lent.specs.Result.{Result, bytes}
-use Rattle.czg.specs.Calls.{answerAt}
+use Rattle.czg.specs.Calls.{answerAt, textAt}
 use Rattle.czg.specs.declared.inputs.Inputs.{Inputs}
 
 -- the first ends before the second, and the last within so many bytes
@@ -26,3 +26,7 @@ answerFor place i memory =
     (take (i .second - i .first) (drop (i .first) memory))
     (take (i .end - i .second) (drop (i .second) memory))
     (i .number)
+
+-- and the text before cleaning
+abbrev pub textFor : ℕ → Inputs → List ℕ → Result (List ℕ)
+textFor place i memory = textAt place (take (i .first) memory) (take (i .second - i .first) (drop (i .first) memory))

@@ -48,16 +48,24 @@ pub(crate) fn put_value(out: &mut [u8], n: usize, text: bool, value: &[u8]) -> u
     put_digits(out, k, value)
 }
 
-// Puts the line of a word and a number.
-fn put_number(out: &mut [u8], n: usize, word: &[u8], number: u32) -> usize
+// Puts a word and a number in decimal.
+pub(crate) fn put_number(out: &mut [u8], n: usize, word: &[u8], number: u64) -> usize
     requires { ⌜ n ≤ length (now out) ⌝ }
     ensures { λ r. ⌜ r ≤ length (now (out .exit)) ⌝ }
 {
     let k = put(out, n, word);
     let mut digits = [0u8; 20];
-    let count = io::decimal(number as u64, &mut digits);
-    let m = put(out, k, &digits[..count]);
-    put(out, m, b"\n")
+    let count = io::decimal(number, &mut digits);
+    put(out, k, &digits[..count])
+}
+
+// Puts a word and a number that end a line.
+pub(crate) fn put_line(out: &mut [u8], n: usize, word: &[u8], number: u64) -> usize
+    requires { ⌜ n ≤ length (now out) ⌝ }
+    ensures { λ r. ⌜ r ≤ length (now (out .exit)) ⌝ }
+{
+    let k = put_number(out, n, word, number);
+    put(out, k, b"\n")
 }
 
 // Puts the line of a refusal.
@@ -65,7 +73,7 @@ pub(crate) fn put_refused(out: &mut [u8], n: usize, number: u32) -> usize
     requires { ⌜ n ≤ length (now out) ⌝ }
     ensures { λ r. ⌜ r ≤ length (now (out .exit)) ⌝ }
 {
-    put_number(out, n, b"refused ", number)
+    put_line(out, n, b"refused ", number as u64)
 }
 
 // Puts the line of a self-test, from the number of the check that differs, 0 where none does.
@@ -74,7 +82,7 @@ pub(crate) fn put_self_test(out: &mut [u8], n: usize, number: u32) -> usize
     ensures { λ r. ⌜ r ≤ length (now (out .exit)) ⌝ }
 {
     if number != 0 {
-        return put_number(out, n, b"failed ", number);
+        return put_line(out, n, b"failed ", number as u64);
     }
     put(out, n, b"done\n")
 }

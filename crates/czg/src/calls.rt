@@ -1,5 +1,7 @@
 // The calls of the entries and of the self-test. A request's place is that of its line in the table.
 use crate::answers::put;
+use crate::answers::put_line;
+use crate::answers::put_number;
 use crate::answers::put_refused;
 use crate::answers::put_self_test;
 use crate::answers::put_value;
@@ -14,8 +16,9 @@ use chizuregwo::terminals;
 ghost use Prim.Native.Nat.{_≤_, _<_};
 ghost use lib.ListN.{length, take};
 ghost use Rattle.lent.specs.Result.{Written};
-ghost use Rattle.czg.specs.Calls.{answerAt};
-ghost use Rattle.czg.specs.Private.{Within, answerFor};
+ghost use Rattle.cleaning.specs.Counts.{WrittenText};
+ghost use Rattle.czg.specs.Calls.{answerAt, textAt};
+ghost use Rattle.czg.specs.Private.{Within, answerFor, textFor};
 
 // The place of `terminal-next-key`, which has two values and a record to be changed.
 pub(crate) const NEXT_KEY: usize = 25;
@@ -23,15 +26,31 @@ pub(crate) const NEXT_KEY: usize = 25;
 // The place of `self-test`, which has no value.
 pub(crate) const SELF_TEST: usize = 26;
 
-// The cipher, key entry, texts and MACs.
-fn text_entry(place: usize, a: &[u8], b: &[u8], c: &[u8], x: u64, out: &mut [u8]) -> lent::Answer
-    requires { ⌜ place < 7 ⌝ }
+// The cipher and key entry.
+fn cipher_entry(place: usize, a: &[u8], b: &[u8], c: &[u8], x: u64, out: &mut [u8]) -> lent::Answer
+    requires { ⌜ place < 3 ⌝ }
     ensures { λ r. ⌜ Written (answerAt place (now (a .entry)) (now (b .entry)) (now (c .entry)) x) (now (out .entry)) (r .number) (r .length) (now (out .exit)) ⌝ }
 {
     match place {
         0 => ciphers::czg_encrypt(a, b, out),
         1 => ciphers::czg_decrypt(a, b, out),
-        2 => messages::czg_key_entry(a, x as usize, out),
+        _ => messages::czg_key_entry(a, x as usize, out),
+    }
+}
+
+// Texts and MACs, with what cleaning threw away.
+fn text_entry(
+    place: usize,
+    a: &[u8],
+    b: &[u8],
+    c: &[u8],
+    x: u64,
+    out: &mut [u8],
+) -> cleaning::TextAnswer
+    requires { ⌜ (3 ≤ place) × (place < 7) ⌝ }
+    ensures { λ r. ⌜ WrittenText (answerAt place (now (a .entry)) (now (b .entry)) (now (c .entry)) x) (textAt place (now (a .entry)) (now (b .entry))) (now (out .entry)) r (now (out .exit)) ⌝ }
+{
+    match place {
         3 => messages::czg_clean(a, out),
         4 => messages::czg_message_text(a, out),
         5 => messages::czg_text_mac(a, b, out),
@@ -75,18 +94,21 @@ fn key_entry(place: usize, a: &[u8], b: &[u8], c: &[u8], x: u64, out: &mut [u8])
     }
 }
 
-// Calls an entry that writes one value.
-fn call(place: usize, a: &[u8], b: &[u8], c: &[u8], x: u64, out: &mut [u8]) -> lent::Answer
+// Calls an entry that writes one value. One that cleans no text throws nothing away.
+fn call(place: usize, a: &[u8], b: &[u8], c: &[u8], x: u64, out: &mut [u8]) -> cleaning::TextAnswer
     requires { ⌜ place < 25 ⌝ }
-    ensures { λ r. ⌜ Written (answerAt place (now (a .entry)) (now (b .entry)) (now (c .entry)) x) (now (out .entry)) (r .number) (r .length) (now (out .exit)) ⌝ }
+    ensures { λ r. ⌜ WrittenText (answerAt place (now (a .entry)) (now (b .entry)) (now (c .entry)) x) (textAt place (now (a .entry)) (now (b .entry))) (now (out .entry)) r (now (out .exit)) ⌝ }
 {
+    if place < 3 {
+        return cleaning::counted(cipher_entry(place, a, b, c, x, out), 0, 0);
+    }
     if place < 7 {
         return text_entry(place, a, b, c, x, out);
     }
     if place < 15 {
-        return pin_entry(place, a, b, c, x, out);
+        return cleaning::counted(pin_entry(place, a, b, c, x, out), 0, 0);
     }
-    key_entry(place, a, b, c, x, out)
+    cleaning::counted(key_entry(place, a, b, c, x, out), 0, 0)
 }
 
 // Whether an entry's value is a text or the digits of a PIN.
@@ -97,16 +119,34 @@ fn is_text(place: usize) -> bool {
     }
 }
 
-// Puts the line of an answer with one value.
-fn put_answer(out: &mut [u8], n: usize, text: bool, number: u32, value: &[u8]) -> usize
+// Whether an entry cleans a text.
+fn cleans(place: usize) -> bool {
+    match place {
+        3..=6 => true,
+        _ => false,
+    }
+}
+
+// Puts the line of an answer with one value, and with the two numbers of what cleaning threw away where a text is cleaned.
+fn put_answer(
+    out: &mut [u8],
+    n: usize,
+    place: usize,
+    answer: cleaning::TextAnswer,
+    value: &[u8],
+) -> usize
     requires { ⌜ n ≤ length (now out) ⌝ }
     ensures { λ r. ⌜ r ≤ length (now (out .exit)) ⌝ }
 {
-    if number != 0 {
-        return put_refused(out, n, number);
+    if answer.number != 0 {
+        return put_refused(out, n, answer.number);
     }
     let k = put(out, n, b"done");
-    let m = put_value(out, k, text, value);
+    let m = put_value(out, k, is_text(place), value);
+    if cleans(place) {
+        let j = put_number(out, m, b" ", answer.dropped as u64);
+        return put_line(out, j, b" ", answer.spaces as u64);
+    }
     put(out, m, b"\n")
 }
 
@@ -117,11 +157,11 @@ fn call_with_room(
     room: usize,
     bytes: &[u8],
     value: &mut [u8],
-) -> lent::Answer
+) -> cleaning::TextAnswer
     requires { ⌜ place < 25 ⌝ }
     requires { ⌜ Within i (length (now bytes)) ⌝ }
     requires { ⌜ room ≤ length (now value) ⌝ }
-    ensures { λ r. ⌜ Written (answerFor place i (now (bytes .entry))) (take room (now (value .entry))) (r .number) (r .length) (take room (now (value .exit))) ⌝ }
+    ensures { λ r. ⌜ WrittenText (answerFor place i (now (bytes .entry))) (textFor place i (now (bytes .entry))) (take room (now (value .entry))) r (take room (now (value .exit))) ⌝ }
 {
     let first = i.first;
     let second = i.second;
@@ -147,7 +187,7 @@ fn answer_one(place: usize, i: Inputs, room: usize, bytes: &[u8], out: &mut [u8]
     let mut value = io::buffer();
     let answer = call_with_room(place, i, room, bytes, &mut value);
     let length = answer.length;
-    put_answer(out, n, is_text(place), answer.number, &value[..length])
+    put_answer(out, n, place, answer, &value[..length])
 }
 
 // Calls for a terminal's next key, with so much room lent for the key and for the serial number.

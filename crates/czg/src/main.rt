@@ -55,6 +55,7 @@ self-test
 # A request is one of these on a line, single spaces between: PIN and CARD as such, TEXT as such to the end of the line,
 # SIZE, SEQUENCE, COUNTER and NUMBER in decimal, any other in hexadecimal, - for no bytes. PIN, CARD and TEXT of any bytes: hex: and hexadecimal.
 # NAME@ROOM lends so many bytes for the result. NAME/LABEL names a case. Answers: done and the values, refused and the number, unknown and why.
+# After the value of clean, message-text, text-mac and message-mac: how many bytes of the text cleaning dropped, and how many spaces went out.
 # self-test takes no input and no room. Its answer is done, or failed and the number of the check.
 ";
     if asked(table) {

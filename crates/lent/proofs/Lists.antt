@@ -19,6 +19,13 @@ use Rattle.lent.proofs.Bases.{Digits}
 pub part-rest : (n : ℕ) (s : List ℕ) → take (length s - n) (drop n s) ≡ drop n s
 part-rest n s = take-all (length s - n) (drop n s) (rw (length-drop n s) (omega arith))
 
+-- a part that ends before the end
+pub part-within : (from to : ℕ) (s : List ℕ) → take (to - from) (drop from s) ≡ drop from (take to s)
+part-within zero to s = rw (sub-zero to)
+part-within (suc from) zero s = rw (zero-sub (suc from))
+part-within (suc from) (suc to) [] = take-all (suc to - suc from) [] (omega arith)
+part-within (suc from) (suc to) (x ∷ s) = rw (suc-sub-suc to from) (part-within from to s)
+
 -- ---- repeated elements
 
 -- zeros, at any place

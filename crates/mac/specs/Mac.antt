@@ -6,11 +6,14 @@ use Prim.Native.Nat.{ℕ}
 use lib.Dec.{eqb, leb, ltb}
 use lib.ListN.{length}
 use Rattle.lent.specs.Refusals.{size, emptyText, shortBuffer}
-use Rattle.lent.specs.Result.{Result, done, require, andThen, bytes, fixed, over}
+use Rattle.lent.specs.Result.{Result, done, require, andThen, bytes, fixed, over, Answered}
 use Rattle.lent.specs.Words.{word, wordBytes}
 use Rattle.chaining.specs.Chain.{chained}
 use Rattle.cleaning.specs.Cleaning.{cleanText}
+use Rattle.cleaning.specs.Counts.{Counted, whereDone}
 use Rattle.message.specs.Text.{messageText}
+use Rattle.mac.specs.declared.MacAnswer.{MacAnswer}
+use Rattle.mac.specs.declared.TextMac.{TextMac}
 
 -- the MAC of a text under a key of eight bytes
 unfoldable pub macOf : List ℕ → List ℕ → List ℕ
@@ -44,10 +47,16 @@ textIn answer = bytes (andThen answer (λ a. done (a .0)))
 abbrev pub macIn : Result (List ℕ × List ℕ) → List ℕ
 macIn answer = fixed 8 (andThen answer (λ a. done (a .1)))
 
--- The promise of an entry that writes a text into lent memory and answers its MAC: the number, the text's length, the MAC, and the memory
--- afterwards.
-pub record TextAndMac (answer : Result (List ℕ × List ℕ)) (before : List ℕ) (num len : ℕ) (val after : List ℕ) : Type 0 where
-  pub number : num ≡ Rattle.lent.specs.Result.number (lendText (length before) answer)
-  pub text : len ≡ length (textIn (lendText (length before) answer))
-  pub mac : val ≡ macIn (lendText (length before) answer)
+-- The promise of an entry that answers the MAC of a cleaned text: its number and MAC, and the two numbers of what cleaning threw away.
+pub record AnsweredMac (answer raw : Result (List ℕ)) (r : MacAnswer) : Type 0 where
+  pub answered : Answered 8 answer (r .number) (r .value)
+  pub counted : Counted (whereDone answer raw) (r .dropped) (r .spaces)
+
+-- The promise of an entry that writes a text into lent memory and answers its MAC: the number, the text's length, the MAC, the memory afterwards, and
+-- the two numbers of what cleaning threw away.
+pub record TextAndMac (answer : Result (List ℕ × List ℕ)) (raw : Result (List ℕ)) (before : List ℕ) (r : TextMac) (after : List ℕ) : Type 0 where
+  pub number : r .number ≡ Rattle.lent.specs.Result.number (lendText (length before) answer)
+  pub text : r .length ≡ length (textIn (lendText (length before) answer))
+  pub mac : r .mac ≡ macIn (lendText (length before) answer)
   pub memory : after ≡ over (textIn (lendText (length before) answer)) before
+  pub counted : Counted (whereDone (lendText (length before) answer) raw) (r .dropped) (r .spaces)

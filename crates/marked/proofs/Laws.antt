@@ -4,6 +4,7 @@ use lib.Count.{ones, onesIn, trailingZeros}
 use Rattle.lent.specs.Characters.{capitalized}
 use Rattle.lent.specs.Words.{fromBase, toBase}
 use Rattle.cleaning.specs.Cleaning.{capitals, kept, keptOnly, trimmedStart, trimmedEnd, trimmed, closedUp, cleaned, cleanText}
+use Rattle.cleaning.specs.Counts.{stays, droppedFrom, spacesIn, spacesOutOf}
 use Rattle.mac.specs.Mac.{textMac, cleanedMac}
 use Rattle.pinblock.specs.CardNumber.{cardHalfBytes, cardPart, pinBlockWithCard}
 use Rattle.pinblock.specs.Entries.{make, makeWithCard, read}
@@ -16,8 +17,8 @@ use Rattle.card.specs.Turned.{turned}
 use Rattle.registers.specs.Counters.{nextAfter, nextCounter}
 use Rattle.registers.specs.Machine.{spent}
 use Rattle.terminal.specs.Record.{afterKey}
-use Rattle.marked.specs.Cases.{answer, table, computed, expected}
+use Rattle.marked.specs.Cases.{answer, counts, table, computed, expected}
 
 pub marked : computed ≡ expected
-unfolding answer table ones onesIn trailingZeros capitalized fromBase toBase capitals kept keptOnly trimmedStart trimmedEnd trimmed closedUp cleaned cleanText textMac cleanedMac cardHalfBytes cardPart pinBlockWithCard make makeWithCard read pinHalfBytes pinBlock candidate pinIfMade pinOf cardDigits rightmost derivationWord derivationData counterBytes turned nextAfter nextCounter spent afterKey
+unfolding answer counts table ones onesIn trailingZeros capitalized fromBase toBase capitals kept keptOnly trimmedStart trimmedEnd trimmed closedUp cleaned cleanText stays droppedFrom spacesIn spacesOutOf textMac cleanedMac cardHalfBytes cardPart pinBlockWithCard make makeWithCard read pinHalfBytes pinBlock candidate pinIfMade pinOf cardDigits rightmost derivationWord derivationData counterBytes turned nextAfter nextCounter spent afterKey
 marked = refl

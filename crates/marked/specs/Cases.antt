@@ -1,5 +1,5 @@
--- The marked cases (01, Marked cases) as one table: of each case the input, the result and the number, over the definitions that the promises of the
--- entries cite.
+-- The marked cases (01, Marked cases) as one table: of each case the input, the result and the number, and of a text what cleaning threw away, over the
+-- definitions that the promises of the entries cite.
 use mathlib.Core.Bool.{false}
 use mathlib.Core.List.{List, [], _∷_, _++_, map}
 use Prim.Native.Nat.{ℕ}
@@ -10,6 +10,7 @@ use Rattle.lent.specs.Refusals as refusals
 use Rattle.lent.specs.Result.{Result, done, refused, bytes, number}
 use Rattle.lent.specs.Words.{toBase, wordBytes}
 use Rattle.cleaning.specs.Cleaning.{cleanText}
+use Rattle.cleaning.specs.Counts.{droppedFrom, spacesOutOf, countOf, whereDone}
 use Rattle.mac.specs.Mac.{textMac}
 use Rattle.pinblock.specs.Entries.{make, makeWithCard, read}
 use Rattle.card.specs.Entries.{derivationData}
@@ -57,16 +58,36 @@ answer (cardAndSequence card sequence) = derivationData card sequence
 answer (halvesOf counter) = done (sessionHalves counter .0 ++ sessionHalves counter .1)
 answer (after c) = counterIn (afterKey (recordWith c))
 
+-- how many bytes cleaning dropped and how many spaces went out; zeros where the answer is a refusal
+abbrev pub countsOf : List ℕ → Result (List ℕ) → List ℕ
+countsOf text made = let before = whereDone made (done text) in countOf droppedFrom before ∷ countOf spacesOutOf before ∷ []
+
+-- these two numbers where a text is cleaned, and none elsewhere
+unfoldable pub counts : Input → List ℕ
+counts (cleaning text) = countsOf text (cleanText text)
+counts (macOf text) = countsOf text (textMac (replicate 8 0) text)
+counts (pin digits) = []
+counts (pinAndCard digits card) = []
+counts (block bytes) = []
+counts (cardAndSequence card sequence) = []
+counts (halvesOf counter) = []
+counts (after c) = []
+
 -- ---- the table
 
--- A case: its input, its result, which is empty where it is refused, and its number.
+-- A case: its input, its result, which is empty where it is refused, its number, and where a text is cleaned the two counts.
 pub record Case : Type 0 where
   pub input : Input
   pub result : List ℕ
   pub number : ℕ
+  pub thrown : List ℕ
 
 abbrev pub row : Input → List ℕ → ℕ → Case
-row i r n = record { input = i; result = r; number = n }
+row i r n = record { input = i; result = r; number = n; thrown = [] }
+
+-- the row of a text, with how many bytes were dropped and how many spaces went out
+abbrev pub textRow : Input → List ℕ → ℕ → ℕ → ℕ → Case
+textRow i r n dropped spaces = record { input = i; result = r; number = n; thrown = dropped ∷ spaces ∷ [] }
 
 -- a text of n bytes, in hexadecimal
 abbrev pub text : ℕ → ℕ → List ℕ
@@ -79,16 +100,16 @@ digits n x = map digitOf (toBase 10 n x)
 unfoldable pub table : List Case
 table =
     -- a: `ab  c` gives `AB C`
-    row (cleaning (text 5 0x61_62_20_20_63)) (text 4 0x41_42_20_43) 0
+    textRow (cleaning (text 5 0x61_62_20_20_63)) (text 4 0x41_42_20_43) 0 0 1
     -- b: ` -x- ` gives `X`
-    ∷ row (cleaning (text 5 0x20_2D_78_2D_20)) (text 1 0x58) 0
+    ∷ textRow (cleaning (text 5 0x20_2D_78_2D_20)) (text 1 0x58) 0 2 2
     -- c: `a - b` gives `A B`
-    ∷ row (cleaning (text 5 0x61_20_2D_20_62)) (text 3 0x41_20_42) 0
+    ∷ textRow (cleaning (text 5 0x61_20_2D_20_62)) (text 3 0x41_20_42) 0 1 1
     -- d: `1,2.3;4` gives `1,2.34`
-    ∷ row (cleaning (text 7 0x31_2C_32_2E_33_3B_34)) (text 6 0x31_2C_32_2E_33_34) 0
+    ∷ textRow (cleaning (text 7 0x31_2C_32_2E_33_3B_34)) (text 6 0x31_2C_32_2E_33_34) 0 1 0
     -- e: `---` gives the empty text; its MAC is 5
-    ∷ row (cleaning (text 3 0x2D_2D_2D)) [] 0
-    ∷ row (macOf (text 3 0x2D_2D_2D)) [] 5
+    ∷ textRow (cleaning (text 3 0x2D_2D_2D)) [] 0 3 0
+    ∷ textRow (macOf (text 3 0x2D_2D_2D)) [] 5 0 0
     -- f and g: a PIN's block
     ∷ row (pin (digits 4 1234)) (wordBytes 0x041234FFFFFFFFFF) 0
     ∷ row (pin (digits 12 123456789012)) (wordBytes 0x0C123456789012FF) 0
@@ -109,10 +130,10 @@ table =
     ∷ row (after 0x1FF800) [] 12
     ∷ []
 
--- the results and numbers that the table gives
-abbrev pub expected : List (List ℕ × ℕ)
-expected = map (λ c. (c .result, c .number)) table
+-- what the table gives
+abbrev pub expected : List (List ℕ × ℕ × List ℕ)
+expected = map (λ c. (c .result, c .number, c .thrown)) table
 
--- those that the definitions give for its inputs
-abbrev pub computed : List (List ℕ × ℕ)
-computed = map (λ c. (bytes (answer (c .input)), number (answer (c .input)))) table
+-- what the definitions give for its inputs
+abbrev pub computed : List (List ℕ × ℕ × List ℕ)
+computed = map (λ c. (bytes (answer (c .input)), number (answer (c .input)), counts (c .input))) table

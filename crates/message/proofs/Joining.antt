@@ -1,14 +1,13 @@
--- What is gathered, when it is cleaned, is the message's text.
-use mathlib.Core.Path.{_≡_, refl, sym, ap, _∙_}
+-- What is gathered is, without its first space, a message's text before it is cleaned.
+use mathlib.Core.Path.{_≡_, refl, sym, ap}
 use mathlib.Core.List.{List, [], _∷_, _++_, map, append-nil}
 use Prim.Native.Nat.{ℕ, _-_, _≤_}
 use native.Mathlib.Omega.{arith}
-use lib.ListN.{length}
+use lib.ListN.{length, drop}
 use Rattle.lent.specs.Result.{Result, done, refused, andThen}
 use Rattle.cleaning.specs.Cleaning.{cleaned}
-use Rattle.cleaning.proofs.Laws.{cleaned-space}
 use Rattle.message.specs.Records.{Field, messageFields}
-use Rattle.message.specs.Text.{shownField, listedOnly, joined, textOf, messageText}
+use Rattle.message.specs.Text.{shownField, listedOnly, joined, joinedFields, textOf, joinedText, messageText}
 use Rattle.message.specs.Gathered.{spaceBeforeEach, spaced, gathered}
 
 spaces-joined : (s : List ℕ) (ss : List (List ℕ)) → spaceBeforeEach (s ∷ ss) ≡ 32 ∷ joined (s ∷ ss)
@@ -22,21 +21,26 @@ unfolding joined spaceBeforeEach
 joined-short [] = omega arith
 joined-short (s ∷ ss) = omega (arith, ap length (spaces-joined s ss))
 
-cleaned-spaces : (ss : List (List ℕ)) → cleaned (spaceBeforeEach ss) ≡ cleaned (joined ss)
+without-first : (ss : List (List ℕ)) → joined ss ≡ drop 1 (spaceBeforeEach ss)
 unfolding joined spaceBeforeEach
-cleaned-spaces [] = refl
-cleaned-spaces (s ∷ ss) = ap cleaned (spaces-joined s ss) ∙ cleaned-space (joined (s ∷ ss))
+without-first [] = refl
+without-first (s ∷ ss) = sym (ap (drop 1) (spaces-joined s ss))
 
-cleaned-spaced : (fs : List Field) → cleaned (spaced fs) ≡ textOf fs
-unfolding textOf spaced
-cleaned-spaced fs = cleaned-spaces (map shownField (listedOnly fs))
-
-on-fields : (r : Result (List Field))
-    → andThen (andThen r (λ fs. done (spaced fs))) (λ g. done (cleaned g)) ≡ andThen r (λ fs. done (textOf fs))
-on-fields (done fs) = ap done (cleaned-spaced fs)
+on-fields : (r : Result (List Field)) → andThen r (λ fs. done (joinedFields fs)) ≡ andThen (andThen r (λ fs. done (spaced fs))) (λ g. done (drop 1 g))
+unfolding spaced
+on-fields (done fs) = ap done (without-first (map shownField (listedOnly fs)))
 on-fields (refused why) = refl
 
--- the text from what is gathered
-pub text-gathered : (m : List ℕ) → messageText m ≡ andThen (gathered m) (λ g. done (cleaned g))
-unfolding messageText gathered
-text-gathered m = sym (on-fields (messageFields m))
+-- the text before cleaning is what is gathered without its first space
+pub joined-gathered : (m : List ℕ) → joinedText m ≡ andThen (gathered m) (λ g. done (drop 1 g))
+unfolding joinedText gathered
+joined-gathered m = on-fields (messageFields m)
+
+-- a message's text is its text before cleaning, cleaned
+pub text-joined : (m : List ℕ) → messageText m ≡ andThen (joinedText m) (λ t. done (cleaned t))
+unfolding messageText joinedText textOf
+text-joined m = decided (messageFields m)
+  where
+    decided : (r : Result (List Field)) → andThen r (λ fs. done (textOf fs)) ≡ andThen (andThen r (λ fs. done (joinedFields fs))) (λ t. done (cleaned t))
+    decided (done fs) = refl
+    decided (refused why) = refl

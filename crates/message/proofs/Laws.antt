@@ -1,12 +1,12 @@
--- Laws on a message's text that other crates cite: it has at most 166 characters, it is never empty, and it is the same for messages
--- that agree on the listed fields.
+-- Laws on a message's text that other crates cite: it has at most 166 characters, it is never empty, what cleaning threw away makes up its size, and it
+-- is the same for messages that agree on the listed fields.
 use borrow.Author.Tests.{eqb-true}
 use mathlib.Core.Path.{_≡_, refl, sym, ap, _∙_}
 use mathlib.Core.Bool.{true}
 use mathlib.Core.List.{List, [], _∷_, _++_, map}
 use Prim.Native.Nat.{ℕ, _+_, _<_, _≤_}
 use native.Mathlib.Omega.{arith}
-use lib.ListN.{length, length-append}
+use lib.ListN.{length, drop, length-append, length-drop}
 use Rattle.lent.specs.Choice.{between, all}
 use Rattle.lent.specs.Characters.{digit}
 use Rattle.lent.specs.declared.characters.Kind.the-variants.{Digits}
@@ -14,6 +14,8 @@ use Rattle.lent.specs.Result.{done}
 use Rattle.lent.proofs.Laws.{both-true, between-true}
 use Rattle.lent.proofs.Results.{then-done, same-done}
 use Rattle.cleaning.specs.Cleaning.{cleaned}
+use Rattle.cleaning.specs.Counts.{droppedFrom, spacesOutOf}
+use Rattle.cleaning.proofs.Counting.{sizes}
 use Rattle.cleaning.proofs.Laws.{cleaned-again, cleaned-short, cleaned-digit}
 use Rattle.message.specs.declared.fields.Shape.the-variants.{All}
 use Rattle.message.specs.declared.fields.Entry.the-variants.{Whole}
@@ -22,10 +24,10 @@ use Rattle.message.specs.declared.records.Place.{Place}
 use Rattle.message.specs.declared.records.Place.the-variants.{First, After}
 use Rattle.message.specs.Fields.{table, ruleIn, rule, shaped, formed}
 use Rattle.message.specs.Records.{Field, messageFields}
-use Rattle.message.specs.Text.{entered, shownField, listedOnly, joined, textOf, messageText, Agree}
-use Rattle.message.specs.Gathered.{spaceBeforeEach, spaced}
+use Rattle.message.specs.Text.{entered, shownField, listedOnly, joined, textOf, joinedText, messageText, Agree}
+use Rattle.message.specs.Gathered.{spaceBeforeEach, spaced, gathered}
 use Rattle.message.proofs.Room.{room, room-short, room-grows}
-use Rattle.message.proofs.Joining.{joined-short}
+use Rattle.message.proofs.Joining.{joined-short, joined-gathered, text-joined}
 use Rattle.message.proofs.Walking.{spaced-next}
 use Rattle.message.proofs.Rising.{Rising, fields-rising}
 use Rattle.message.proofs.Agreeing.{listed-same}
@@ -96,6 +98,18 @@ never-empty m t e =
     some : (fs : List Field) → Rising First fs → 0 < length fs → 0 < length (textOf fs)
     some [] r h = absurd (omega arith)
     some (f ∷ fs) r h = type-some f fs (eqb-true (f .number) 0 (r .0)) (r .1)
+
+-- so what is gathered has more than its first space
+pub gathered-some : (m v : List ℕ) → gathered m ≡ done v → 1 < length v
+gathered-some m v e =
+    let t = cleaned (drop 1 v) in
+    omega (arith, never-empty m t (text-joined m ∙ rw (joined-gathered m, e)), cleaned-short (drop 1 v), length-drop 1 v)
+
+-- a message's text before cleaning has as many bytes as its text, with those that were dropped and the spaces that went out
+pub message-sizes : (m j t : List ℕ) → joinedText m ≡ done j → messageText m ≡ done t → length j ≡ length t + droppedFrom j + spacesOutOf j
+message-sizes m j t d e =
+    let same : cleaned j ≡ t = same-done (sym (text-joined m ∙ rw d) ∙ e) in
+    rw (← same) (sizes j)
 
 -- two accepted messages that agree on the listed fields have the same text
 pub same-text : (m k : List ℕ) (fs gs : List Field) → messageFields m ≡ done fs → messageFields k ≡ done gs → Agree fs gs → messageText m ≡ messageText k

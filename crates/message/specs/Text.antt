@@ -42,9 +42,17 @@ joined [] = []
 joined (s ∷ []) = s
 joined (s ∷ t ∷ ss) = s ++ space ∷ joined (t ∷ ss)
 
+-- the text of a message's fields before it is cleaned
+abbrev pub joinedFields : List Field → List ℕ
+joinedFields fs = joined (map shownField (listedOnly fs))
+
 -- the text of a message's fields
 unfoldable pub textOf : List Field → List ℕ
-textOf fs = cleaned (joined (map shownField (listedOnly fs)))
+textOf fs = cleaned (joinedFields fs)
+
+-- the text of a message before it is cleaned
+unfoldable pub joinedText : List ℕ → Result (List ℕ)
+joinedText s = andThen (messageFields s) (λ fs. done (joinedFields fs))
 
 -- the text of a message
 unfoldable pub messageText : List ℕ → Result (List ℕ)

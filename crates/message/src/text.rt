@@ -9,7 +9,8 @@ ghost use mathlib.Core.Path.{_≡_};
 ghost use Prim.Native.Nat.{_≤_};
 ghost use lib.ListN.{length, take};
 ghost use Rattle.lent.specs.Private.{Appends};
-ghost use Rattle.lent.specs.Result.{Answered, Written};
+ghost use Rattle.lent.specs.Result.{Answered};
+ghost use Rattle.cleaning.specs.Counts.{WrittenText};
 ghost use Rattle.message.specs.Text;
 ghost use Rattle.message.specs.Gathered;
 
@@ -93,16 +94,16 @@ fn gather(message: &[u8], raw: &mut [u8]) -> lent::Answer
 }
 
 // Writes a message's MAC text into lent memory: refuses with 6 if the message has more than 4,096 bytes, with 1 if it is empty, then record by
-// record with 1, 2, 4, 3, then with 13 if the memory is shorter than the text.
-pub fn message_text(message: &[u8], out: &mut [u8]) -> lent::Answer
-    ensures { λ r. ⌜ Written (Text.messageText (now (message .entry))) (now (out .entry)) (r .number) (r .length) (now (out .exit)) ⌝ }
+// record with 1, 2, 4, 3, then with 13 if the memory is shorter than the text. The text before cleaning has no space before its first field.
+pub fn message_text(message: &[u8], out: &mut [u8]) -> cleaning::TextAnswer
+    ensures { λ r. ⌜ WrittenText (Text.messageText (now (message .entry))) (Text.joinedText (now (message .entry))) (now (out .entry)) r (now (out .exit)) ⌝ }
 {
     let mut raw = [0u8; 167];
     let gathered = gather(message, &mut raw);
     let number = gathered.number;
     if number != lent::DONE {
-        return lent::refused(number);
+        return cleaning::refused(number);
     }
     let n = gathered.length;
-    cleaning::clean(&raw[..n], out)
+    cleaning::clean(&raw[1..n], out)
 }

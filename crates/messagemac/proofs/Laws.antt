@@ -14,7 +14,7 @@ use Rattle.lent.proofs.Results.{Refuses}
 use Rattle.message.specs.Records.{messageFields}
 use Rattle.message.specs.Text.{messageText}
 use Rattle.mac.specs.Mac.{messageMac, messageTextAndMac}
-use Rattle.messagemac.specs.Output.{line, decimal, refusedWord, lines, answer, output}
+use Rattle.messagemac.specs.Output.{line, decimalIn, decimal, refusedWord, lines, answer, output}
 
 pub short-answer : (input : List ℕ) → length input < 8 → answer input ≡ refused size
 unfolding answer
@@ -32,12 +32,12 @@ refused-output input h (why, en, e) = rw (whole-answer input h, e, en)
 
 -- fewer than eight bytes give `refused 6`
 pub fewer : (input : List ℕ) → length input < 8 → output input ≡ refusedWord ++ 54 ∷ 10 ∷ []
-unfolding lines decimal
+unfolding lines decimal decimalIn
 fewer input h = rw (short-answer input h)
 
 -- eight bytes alone give `refused 1`
 pub key-alone : (input : List ℕ) → length input ≡ 8 → output input ≡ refusedWord ++ 49 ∷ 10 ∷ []
-unfolding lines decimal answer messageTextAndMac messageMac messageText messageFields
+unfolding lines decimal decimalIn answer messageTextAndMac messageMac messageText messageFields
 key-alone input e =
     let none : drop 8 input ≡ [] = drop-of-length-le input {i = 8} (omega arith) in
     simp (none, take-all 8 input (omega arith), e)
@@ -50,6 +50,7 @@ long-answer input h =
 
 -- what stands after the 4,105th byte does not matter: 8 bytes of key and 4,097 of message are too long
 pub read-enough : (input : List ℕ) → output (take 4105 input) ≡ output input
+unfolding lines
 read-enough input =
     cases (leb (length input) 4105) (λ t. rw (take-all 4105 input (leb-true _ _ t)))
     (λ f.

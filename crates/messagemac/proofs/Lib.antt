@@ -1,2 +1,3 @@
+mod Decimal
 mod Lines
 mod Laws

@@ -1,5 +1,6 @@
-// Reads eight bytes of MAC key and then one message from standard input, and writes the message's MAC text on one line and its MAC as sixteen
-// capital hexadecimal digits on the next; or `refused` and the number (01, The job and its edge).
+// Reads eight bytes of MAC key and then one message from standard input, and writes the message's MAC text on one line, its MAC as sixteen
+// capital hexadecimal digits on the next, and on a third how many bytes cleaning dropped and how many spaces went out; or `refused` and the number
+// (01, The job and its edge; 02, M-106).
 mod output;
 
 // Whether the program was asked for something else than its work.
@@ -13,7 +14,8 @@ fn asked() -> bool {
         b"usage: messagemac <FILE   (messagemac --help says more)\n",
         b"usage: messagemac <FILE
 Reads eight bytes of MAC key and then one message from standard input.
-Writes the message's MAC text on one line and its MAC, sixteen hexadecimal digits, on the next;
+Writes the message's MAC text on one line, its MAC, sixteen hexadecimal digits, on the next,
+and on a third two numbers: how many bytes cleaning dropped, and how many spaces went out;
 or `refused` and a number, whose meaning stands in include/chizuregwo.h.
 example: messagemac <examples/sale.bin
 ",
@@ -31,7 +33,7 @@ fn main() {
         return;
     }
     let n = read.count;
-    let mut out = [0u8; 184];
+    let mut out = [0u8; 226];
     let made = output::output(&input[..n], &mut out);
     console::write(b"messagemac", &out[..made]);
 }

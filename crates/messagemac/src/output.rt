@@ -1,9 +1,11 @@
-// What the program writes, in a buffer of 184 bytes: a text of at most 166 characters, sixteen digits and two line feeds.
+// What the program writes, in a buffer of 226 bytes: a text of at most 166 characters, sixteen digits, two numbers of at most 20, a space and three
+// line feeds.
 ghost use mathlib.Core.Path.{_≡_};
-ghost use mathlib.Core.List.{_++_};
+ghost use mathlib.Core.List.{_∷_, _++_};
 ghost use lib.ListN.{length};
 ghost use Rattle.lent.specs.Private.{Appends};
 ghost use Rattle.keyentry.specs.Hexadecimal.{textOf};
+ghost use Rattle.cleaning.specs.Cleaning.{space};
 ghost use Rattle.messagemac.specs.Output;
 ghost use Rattle.messagemac.specs.Output.{line, decimal, refusedWord, Made};
 
@@ -15,16 +17,13 @@ fn append(out: &mut [u8], n: usize, value: &[u8]) -> usize
     appended.length
 }
 
-// Appends a number below 100 in decimal.
-fn append_decimal(out: &mut [u8], n: usize, number: u32) -> usize
+// Appends a number in decimal.
+fn append_decimal(out: &mut [u8], n: usize, number: u64) -> usize
     ensures { λ r. ⌜ Appends (decimal number) (now (out .entry)) (now (out .exit)) n r ⌝ }
 {
-    let digits = lent::two_digits(number as usize);
-    if number < 10 {
-        let digit = [digits[1]];
-        return append(out, n, &digit);
-    }
-    append(out, n, &digits)
+    let mut digits = [0u8; 20];
+    let count = io::decimal(number, &mut digits);
+    append(out, n, &digits[..count])
 }
 
 // Appends the hexadecimal digits of a MAC, in capitals.
@@ -40,7 +39,7 @@ fn refusal(number: u32, out: &mut [u8]) -> usize
     ensures { λ r. ⌜ Appends (line (refusedWord ++ decimal number)) (now (out .entry)) (now (out .exit)) 0 r ⌝ }
 {
     let n = append(out, 0, b"refused ");
-    let k = append_decimal(out, n, number);
+    let k = append_decimal(out, n, number as u64);
     append(out, k, b"\n")
 }
 
@@ -54,9 +53,19 @@ fn two_lines(text: &[u8], mac: [u8; 8], out: &mut [u8]) -> usize
     append(out, m, b"\n")
 }
 
+// Appends the line of two numbers, with a space between.
+fn append_numbers(out: &mut [u8], n: usize, dropped: usize, spaces: usize) -> usize
+    ensures { λ r. ⌜ Appends (line (decimal dropped ++ space ∷ decimal spaces)) (now (out .entry)) (now (out .exit)) n r ⌝ }
+{
+    let k = append_decimal(out, n, dropped as u64);
+    let m = append(out, k, b" ");
+    let e = append_decimal(out, m, spaces as u64);
+    append(out, e, b"\n")
+}
+
 // Makes what is written for the bytes that were read, and gives how many bytes it is.
 pub(crate) fn output(input: &[u8], out: &mut [u8]) -> usize
-    requires { ⌜ length (now out) ≡ 184 ⌝ }
+    requires { ⌜ length (now out) ≡ 226 ⌝ }
     ensures { λ r. ⌜ Made (Output.output (now (input .entry))) (now (out .exit)) r ⌝ }
 {
     if input.len() < 8 {
@@ -70,5 +79,6 @@ pub(crate) fn output(input: &[u8], out: &mut [u8]) -> usize
     }
     let n = made.length;
     let mac = made.mac;
-    two_lines(&room[..n], mac, out)
+    let k = two_lines(&room[..n], mac, out);
+    append_numbers(out, k, made.dropped, made.spaces)
 }

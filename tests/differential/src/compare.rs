@@ -1,10 +1,11 @@
-//! One input through both, and every byte of lent memory compared.
+//! One input through both, and every byte of lent memory and every member of the answer compared.
 
-use crate::entries::{meaning_of, Entry, Input, MEANING};
+use crate::entries::{meaning_of, Entry, Input, Value, MEANING};
 use crate::random::Random;
 use chizuregwo::{Error, MOST_MEANING};
 use second::bytes::hex;
-use second::numbers::{lend, Answer};
+use second::numbers::SHORT_BUFFER;
+use std::panic::{catch_unwind, AssertUnwindSafe};
 
 /// Bytes on each side of a lent buffer that must stay as they are.
 const MARGIN: usize = 16;
@@ -54,33 +55,36 @@ impl Lent {
     }
 }
 
-/// A number and a length of an answer, 0 and the length if done.
-fn numbers(answer: Result<usize, Error>) -> (u32, usize) {
-    match answer {
-        Ok(length) => (0, length),
-        Err(error) => (error.number(), 0),
-    }
+// The crate holds a refusal to zeros by assertions: this test is built with them.
+const _: () = assert!(cfg!(debug_assertions));
+
+/// Calls the library. The crate panics where a refusal has a length or a count that is not 0: that is a difference too.
+pub fn called<W>(call: impl FnOnce() -> Result<W, Error>) -> Result<Result<W, Error>, String> {
+    catch_unwind(AssertUnwindSafe(call))
+        .map_err(|_| "the crate panicked, as standard error says".to_string())
 }
 
-/// Compares the library's number and length with those of an expected answer, and gives the number.
-pub fn same_answer(answer: Result<usize, Error>, expected: &Answer) -> Result<u8, String> {
+/// Compares what the library answers with an expected answer, the length and both counts too, and gives the number.
+pub fn same_answer<V: Value>(
+    answer: Result<V::Written, Error>,
+    expected: &Result<V, u8>,
+) -> Result<u8, String> {
+    let got = answer.map_err(|error| error.number());
     let wanted = match expected {
-        Ok(value) => (0, value.len()),
-        Err(number) => (*number, 0),
+        Ok(value) => Ok(value.written()),
+        Err(number) => Err(u32::from(*number)),
     };
-    let got = numbers(answer);
-    if got == (u32::from(wanted.0), wanted.1) {
-        return Ok(wanted.0);
+    if got == wanted {
+        return Ok(expected.as_ref().err().copied().unwrap_or(0));
     }
     Err(format!(
-        "number {} and length {} where the second implementation has {} and {}",
-        got.0, got.1, wanted.0, wanted.1
+        "{got:?} where the second implementation has {wanted:?}"
     ))
 }
 
 /// Room for a result: its length, more or less; any for a refusal.
-pub fn room(random: &mut Random, result: &Answer) -> usize {
-    let Ok(value) = result else {
+fn room<V: Value>(random: &mut Random, result: &Result<V, u8>) -> usize {
+    let Ok(value) = result.as_ref().map(V::bytes) else {
         return random.below(200);
     };
     match random.below(10) {
@@ -94,7 +98,7 @@ pub fn room(random: &mut Random, result: &Answer) -> usize {
 }
 
 /// One input of an entry; gives the number answered, or says what differs.
-pub fn compare(random: &mut Random, entry: &Entry) -> Result<u8, String> {
+pub fn compare<V: Value>(random: &mut Random, entry: &Entry<V>) -> Result<u8, String> {
     let input = (entry.input)(random);
     let unlimited = (entry.second)(&input);
     let room = room(random, &unlimited);
@@ -117,21 +121,25 @@ pub fn room_by_room(random: &mut Random) -> Result<Vec<u8>, String> {
     Ok(numbers)
 }
 
-/// One call of the library, every byte of lent memory compared with what the second implementation answers if the room is
-/// unlimited; gives the number.
-fn compare_call(
+/// One call of the library, its answer and every byte of lent memory compared with what the second implementation answers
+/// if the room is unlimited; gives the number.
+fn compare_call<V: Value>(
     random: &mut Random,
-    entry: &Entry,
+    entry: &Entry<V>,
     input: &Input,
-    unlimited: Answer,
+    unlimited: Result<V, u8>,
     room: usize,
 ) -> Result<u8, String> {
-    let expected = unlimited.and_then(|value| lend(value, room));
+    let expected = match unlimited {
+        Ok(value) if value.bytes().len() > room => Err(SHORT_BUFFER),
+        unlimited => unlimited,
+    };
     let mut lent = Lent::new(random, room);
     let parts = input.parts.clone();
-    let answer = (entry.library)(input, lent.bytes());
-    let value = expected.as_deref().unwrap_or(&[]);
-    same_answer(answer, &expected)
+    let answer = called(|| (entry.library)(input, lent.bytes()));
+    let value = expected.as_ref().map_or(&[][..], V::bytes);
+    answer
+        .and_then(|answer| same_answer(answer, &expected))
         .and_then(|number| lent.holds(value).map(|_| number))
         .and_then(|number| {
             if input.parts == parts {

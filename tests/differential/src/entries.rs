@@ -2,10 +2,13 @@
 
 use crate::messages::{message, text};
 use crate::random::Random;
-use chizuregwo::{lent, Error};
+use chizuregwo::lent::{self, WrittenText};
+use chizuregwo::Error;
+use second::cleaning::{self, Counted};
 use second::entries::{decrypt, encrypt, terminal_load};
-use second::numbers::{meaning, Answer};
-use second::{card, cleaning, dukpt, key_entry, mac, message as messages, pin};
+use second::numbers::meaning;
+use second::{card, dukpt, key_entry, mac, message as messages, pin};
+use std::fmt::Debug;
 
 /// Room that no result fills.
 const ENOUGH: usize = usize::MAX;
@@ -16,15 +19,51 @@ pub struct Input {
     pub number: u64,
 }
 
+/// What the second implementation gives when done.
+pub trait Value {
+    /// What the library answers when done, beside the bytes that it writes.
+    type Written: Debug + PartialEq;
+    /// The bytes that the library must write.
+    fn bytes(&self) -> &[u8];
+    /// What the library must answer.
+    fn written(&self) -> Self::Written;
+}
+
+/// Bytes alone: the library answers their length.
+impl Value for Vec<u8> {
+    type Written = usize;
+    fn bytes(&self) -> &[u8] {
+        self
+    }
+    fn written(&self) -> usize {
+        self.len()
+    }
+}
+
+/// A cleaned text or its MAC: the library answers both counts too.
+impl Value for Counted {
+    type Written = WrittenText;
+    fn bytes(&self) -> &[u8] {
+        &self.value
+    }
+    fn written(&self) -> WrittenText {
+        WrittenText {
+            length: self.value.len(),
+            dropped: self.dropped,
+            spaces: self.spaces,
+        }
+    }
+}
+
 /// An entry and how it is called in the library and in the second implementation.
-pub struct Entry {
+pub struct Entry<V: Value> {
     /// Its name in the header, without `czg_`.
     pub name: &'static str,
     /// Inputs of every thousand.
     pub share: usize,
     pub input: fn(&mut Random) -> Input,
-    pub library: fn(&Input, &mut [u8]) -> Result<usize, Error>,
-    pub second: fn(&Input) -> Answer,
+    pub library: fn(&Input, &mut [u8]) -> Result<V::Written, Error>,
+    pub second: fn(&Input) -> Result<V, u8>,
 }
 
 /// An input of parts alone.
@@ -233,7 +272,7 @@ fn asked_number(input: &Input) -> u32 {
 }
 
 /// The meaning of a number, mostly of one from 0 to 20.
-pub const MEANING: Entry = Entry {
+pub const MEANING: Entry<Vec<u8>> = Entry {
     name: "meaning",
     share: 10,
     input: |random| {
@@ -254,8 +293,9 @@ pub fn meaning_of(number: u32) -> Input {
     }
 }
 
-/// Every entry that writes one buffer. The shares make a thousand with those of the terminal's next key.
-pub const ENTRIES: [Entry; 25] = [
+/// Every entry that writes one buffer, but for those that clean a text. The shares make a thousand with those and the
+/// terminal's next key.
+pub const ENTRIES: [Entry<Vec<u8>>; 21] = [
     MEANING,
     Entry {
         name: "encrypt",
@@ -277,34 +317,6 @@ pub const ENTRIES: [Entry; 25] = [
         input: key_entry_input,
         library: |i, out| lent::key_entry(&i.parts[0], wanted(i), out),
         second: |i| key_entry::key_entry(&i.parts[0], wanted(i), ENOUGH),
-    },
-    Entry {
-        name: "clean",
-        share: 90,
-        input: |random| parts(vec![text(random, 200)]),
-        library: |i, out| lent::clean(&i.parts[0], out),
-        second: |i| cleaning::clean(&i.parts[0], ENOUGH),
-    },
-    Entry {
-        name: "message_text",
-        share: 120,
-        input: |random| parts(vec![message(random)]),
-        library: |i, out| lent::message_text(&i.parts[0], out),
-        second: |i| messages::message_text(&i.parts[0], ENOUGH),
-    },
-    Entry {
-        name: "text_mac",
-        share: 30,
-        input: |random| parts(vec![random.sized(8), text(random, 60)]),
-        library: |i, out| lent::text_mac(&i.parts[0], &i.parts[1], out),
-        second: |i| mac::text_mac(&i.parts[0], &i.parts[1]),
-    },
-    Entry {
-        name: "message_mac",
-        share: 40,
-        input: |random| parts(vec![random.sized(8), message(random)]),
-        library: |i, out| lent::message_mac(&i.parts[0], &i.parts[1], out),
-        second: |i| mac::message_mac(&i.parts[0], &i.parts[1]),
     },
     Entry {
         name: "pin_make",
@@ -430,5 +442,37 @@ pub const ENTRIES: [Entry; 25] = [
         input: |random| parts(vec![random.sized(8), serial_number(random)]),
         library: |i, out| lent::terminal_load(&i.parts[0], &i.parts[1], out),
         second: |i| terminal_load(&i.parts[0], &i.parts[1]),
+    },
+];
+
+/// The entries that clean a text: they answer both counts.
+pub const TEXT_ENTRIES: [Entry<Counted>; 4] = [
+    Entry {
+        name: "clean",
+        share: 90,
+        input: |random| parts(vec![text(random, 200)]),
+        library: |i, out| lent::clean(&i.parts[0], out),
+        second: |i| cleaning::clean(&i.parts[0], ENOUGH),
+    },
+    Entry {
+        name: "message_text",
+        share: 120,
+        input: |random| parts(vec![message(random)]),
+        library: |i, out| lent::message_text(&i.parts[0], out),
+        second: |i| messages::message_text(&i.parts[0], ENOUGH),
+    },
+    Entry {
+        name: "text_mac",
+        share: 30,
+        input: |random| parts(vec![random.sized(8), text(random, 60)]),
+        library: |i, out| lent::text_mac(&i.parts[0], &i.parts[1], out),
+        second: |i| mac::text_mac(&i.parts[0], &i.parts[1]),
+    },
+    Entry {
+        name: "message_mac",
+        share: 40,
+        input: |random| parts(vec![random.sized(8), message(random)]),
+        library: |i, out| lent::message_mac(&i.parts[0], &i.parts[1], out),
+        second: |i| mac::message_mac(&i.parts[0], &i.parts[1]),
     },
 ];

@@ -4,9 +4,11 @@
 /// The header's path.
 const PATH: &str = concat!(env!("CARGO_MANIFEST_DIR"), "/../../include/chizuregwo.h");
 
-/// An entry as the header has it: its name without `czg_`, and the refusals that it lists.
+/// An entry as the header has it: its name without `czg_`, whether it answers the counts of a cleaned text, and the
+/// refusals that it lists.
 pub struct Listed {
     pub name: String,
+    pub counts: bool,
     pub refusals: Vec<u8>,
 }
 
@@ -56,12 +58,22 @@ fn name(text: &str) -> &str {
 /// The entry whose name starts at a place of the header, after `czg_`.
 fn listed(header: &str, place: usize) -> Result<Listed, String> {
     let name = name(&header[place..]);
-    let before = header[..place].strip_suffix("\nczg_answer czg_");
-    let comment = before.and_then(comment).unwrap_or_default();
+    let answers = |answer: &str| header[..place].strip_suffix(&format!("\n{answer} czg_"));
+    let (counts, before) = match (answers("czg_answer"), answers("czg_text_answer")) {
+        (Some(before), _) => (false, before),
+        (_, Some(before)) => (true, before),
+        _ => {
+            return Err(format!(
+                "{PATH}: czg_{name}: it answers neither czg_answer nor czg_text_answer"
+            ))
+        }
+    };
+    let comment = comment(before).unwrap_or_default();
     let list = comment.rsplit_once("Refusals: ").map(|(_, list)| list);
     match list.and_then(refusals) {
         Some(refusals) => Ok(Listed {
             name: name.to_string(),
+            counts,
             refusals,
         }),
         None => Err(format!(

@@ -6,7 +6,8 @@
 //! difference with its input, status 1.
 //!
 //! Each entry must have answered every refusal that chizuregwo.h lists with it, and no other, and every entry of the
-//! header must have been called, but for czg_version, which answers no refusal.
+//! header must have been called, but for czg_version, which answers no refusal. Of the entries that answer a
+//! czg_text_answer, and of no other, both counts are compared.
 
 #![forbid(unsafe_code)]
 
@@ -17,7 +18,7 @@ mod messages;
 mod random;
 mod terminals;
 
-use entries::ENTRIES;
+use entries::{Entry, Value, ENTRIES, TEXT_ENTRIES};
 use header::Listed;
 use random::Random;
 use std::collections::BTreeMap;
@@ -138,13 +139,25 @@ fn asked() -> Result<Asked, String> {
     Ok(asked)
 }
 
-/// Every entry on seeded inputs, then the meanings room by room and records damaged byte by byte.
-fn inputs(random: &mut Random, count: usize, all: &mut All) -> Result<(), String> {
-    for entry in &ENTRIES {
+/// Each of some entries on its share of the inputs.
+fn shares<V: Value>(
+    entries: &[Entry<V>],
+    random: &mut Random,
+    count: usize,
+    all: &mut All,
+) -> Result<(), String> {
+    for entry in entries {
         run(entry.name, count * entry.share / 1000, all, || {
             compare::compare(random, entry)
         })?;
     }
+    Ok(())
+}
+
+/// Every entry on seeded inputs, then the meanings room by room and records damaged byte by byte.
+fn inputs(random: &mut Random, count: usize, all: &mut All) -> Result<(), String> {
+    shares(&ENTRIES, random, count, all)?;
+    shares(&TEXT_ENTRIES, random, count, all)?;
     let next_keys = count * NEXT_KEY_SHARE / 1000;
     run("terminal_next_key", next_keys, all, || {
         terminals::compare(random)
@@ -159,9 +172,20 @@ fn inputs(random: &mut Random, count: usize, all: &mut All) -> Result<(), String
     Ok(())
 }
 
-/// Holds what the entries answered to the header's list: the same entries, and each its refusals.
+/// Holds what the entries answered to the header's list: the same entries, and each its refusals, and its counts where it
+/// has them.
 fn same_refusals(listed: &[Listed], all: &All, least: usize) -> Result<(), String> {
     for entry in listed {
+        let counts = TEXT_ENTRIES.iter().any(|text| text.name == entry.name);
+        if counts != entry.counts {
+            let with = |counts| if counts { "with" } else { "without" };
+            return Err(format!(
+                "czg_{} is compared {} counts, and the header has it {} them",
+                entry.name,
+                with(counts),
+                with(entry.counts)
+            ));
+        }
         match all.get(entry.name.as_str()) {
             Some(seen) => seen.agrees(entry, least)?,
             None => return Err(format!("czg_{} of the header is not called", entry.name)),

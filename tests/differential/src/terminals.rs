@@ -1,6 +1,6 @@
 //! The terminal's next key: records whole, damaged and damaged byte by byte, and the drain of one terminal.
 
-use crate::compare::{same_answer, Lent};
+use crate::compare::{called, same_answer, Lent};
 use crate::entries::counter;
 use crate::random::Random;
 use chizuregwo::{lent, Error};
@@ -49,7 +49,14 @@ const LAST_COUNTER: u32 = 0x1F_F800;
 fn permitted(random: &mut Random) -> u32 {
     let some = match random.below(8) {
         0 => random.one_of(&[
-            1, 0x3FF, 0x400, 0x7FE, 0x800, 0x1F_F000, LAST_COUNTER, 0x10_0000,
+            1,
+            0x3FF,
+            0x400,
+            0x7FE,
+            0x800,
+            0x1F_F000,
+            LAST_COUNTER,
+            0x10_0000,
         ]),
         1 => LAST_COUNTER >> random.below(12),
         _ => counter(random),
@@ -105,13 +112,13 @@ fn compare_call(
     record.start_with(bytes);
     let mut key = Lent::new(random, key_room);
     let mut serial = Lent::new(random, serial_room);
-    let answer = lent::terminal_next_key(record.bytes(), key.bytes(), serial.bytes());
+    let answer = called(|| lent::terminal_next_key(record.bytes(), key.bytes(), serial.bytes()));
     let same = || {
         let answered = expected
             .as_ref()
             .map(|next| next.key.to_vec())
             .map_err(|number| *number);
-        let number = same_answer(answer, &answered)?;
+        let number = same_answer(answer?, &answered)?;
         match &expected {
             Ok(next) => {
                 record.holds(&dukpt::to_bytes(&next.record))?;

@@ -3,7 +3,8 @@
 //! Every value is computed bit by bit or by search, so that the rule can be
 //! recognised in the function. `01` in a comment is the paper of exact rules,
 //! `000` to `004` are its source documents. A refusal is `Err` with the number
-//! that paper 01 gives it; a done value is bytes.
+//! that paper 01 gives it; a done value is bytes, with two counts where a text
+//! was cleaned.
 
 #![deny(missing_docs)]
 #![forbid(unsafe_code)]

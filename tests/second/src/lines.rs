@@ -3,7 +3,9 @@
 //!
 //! A request is `NAME[@ROOM][/LABEL] INPUT INPUT ..` with single spaces between.
 //! An answer is `done` and the values, or `refused` and the number; of the
-//! self-test `done`, or `failed` and the number of the check.
+//! self-test `done`, or `failed` and the number of the check. The values of a
+//! request that cleans a text are the text or its MAC, the bytes dropped and the
+//! spaces that went out, both in decimal.
 
 use std::io::BufRead;
 

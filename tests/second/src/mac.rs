@@ -2,10 +2,10 @@
 //! full 8 bytes (01, the message and its MAC text).
 
 use crate::bytes::{array, xor};
-use crate::cleaning::{cleaned, LONGEST_TEXT};
+use crate::cleaning::{cleaned, Counted, CountedAnswer, LONGEST_TEXT};
 use crate::des::encrypt;
-use crate::message::text_of;
-use crate::numbers::{require, Answer, EMPTY_TEXT, SIZE};
+use crate::message::joined;
+use crate::numbers::{require, EMPTY_TEXT, SIZE};
 
 /// Last block of cipher block chaining over whole blocks, start value zero.
 pub fn chained(key: &[u8; 8], blocks: &[u8]) -> [u8; 8] {
@@ -31,16 +31,17 @@ fn mac_of(key: &[u8], text: &[u8]) -> Vec<u8> {
 }
 
 /// MAC of a free text, which is cleaned first: 6, 5.
-pub fn text_mac(key: &[u8], text: &[u8]) -> Answer {
+pub fn text_mac(key: &[u8], text: &[u8]) -> CountedAnswer {
     require(key.len() == 8, SIZE)?;
     require(text.len() <= LONGEST_TEXT, SIZE)?;
-    let text = cleaned(text);
-    require(!text.is_empty(), EMPTY_TEXT)?;
-    Ok(mac_of(key, &text))
+    let after = cleaned(text);
+    require(!after.is_empty(), EMPTY_TEXT)?;
+    Ok(Counted::new(mac_of(key, &after), text))
 }
 
 /// MAC of a message: 6 for the key, then what the message is refused with.
-pub fn message_mac(key: &[u8], message: &[u8]) -> Answer {
+pub fn message_mac(key: &[u8], message: &[u8]) -> CountedAnswer {
     require(key.len() == 8, SIZE)?;
-    Ok(mac_of(key, &text_of(message)?))
+    let before = joined(message)?;
+    Ok(Counted::new(mac_of(key, &cleaned(&before)), &before))
 }

@@ -2,10 +2,8 @@
 //! table 8).
 
 use crate::bytes::all_digits;
-use crate::cleaning::cleaned;
-use crate::numbers::{
-    lend, require, Answer, CUT_SHORT, FIELD_FORM, FIELD_ORDER, MESSAGE_TYPE, SIZE,
-};
+use crate::cleaning::{cleaned, Counted, CountedAnswer};
+use crate::numbers::{require, Answer, CUT_SHORT, FIELD_FORM, FIELD_ORDER, MESSAGE_TYPE, SIZE};
 
 /// Longest message in bytes.
 const LONGEST_MESSAGE: usize = 4096;
@@ -110,8 +108,9 @@ fn part(field: u16, body: &[u8]) -> Vec<u8> {
     }
 }
 
-/// The text of a message of any room: 6, then 1, 2, 4, 3 record by record.
-pub(crate) fn text_of(message: &[u8]) -> Answer {
+/// The text of a message before cleaning, its parts joined by one space each: 6,
+/// then 1, 2, 4, 3 record by record.
+pub(crate) fn joined(message: &[u8]) -> Answer {
     require(message.len() <= LONGEST_MESSAGE, SIZE)?;
     let records = records(message)?;
     let mut parts = Vec::new();
@@ -119,10 +118,11 @@ pub(crate) fn text_of(message: &[u8]) -> Answer {
         let present = records.iter().find(|(field, _)| *field == listed);
         parts.extend(present.map(|(field, body)| part(*field, body)));
     }
-    Ok(cleaned(&parts.join(&b' ')))
+    Ok(parts.join(&b' '))
 }
 
 /// MAC text of a message: 6, then 1, 2, 4, 3 record by record, then 13.
-pub fn message_text(message: &[u8], room: usize) -> Answer {
-    lend(text_of(message)?, room)
+pub fn message_text(message: &[u8], room: usize) -> CountedAnswer {
+    let before = joined(message)?;
+    Counted::new(cleaned(&before), &before).lend(room)
 }

@@ -1,5 +1,6 @@
 //! Computes the answer of each request from its inputs alone.
 
+use crate::cleaning::{Counted, CountedAnswer};
 use crate::dukpt::{to_bytes, NextKey};
 use crate::lines::{answer_line, bytes_value, requests, self_test_line, text_value};
 use crate::lines::{Inputs, Request, Rooms};
@@ -24,6 +25,25 @@ fn text(answer: Answer, rooms: Rooms) -> Result<String, String> {
     Ok(answer_line(&lent.map(|value| vec![text_value(&value)])))
 }
 
+/// The line of a value as it is written and its two counts, if the room is
+/// enough for it.
+fn counted(
+    answer: CountedAnswer,
+    rooms: Rooms,
+    written: fn(&[u8]) -> String,
+) -> Result<String, String> {
+    let values = |counted: Counted| {
+        let (dropped, spaces) = (counted.dropped, counted.spaces);
+        vec![
+            written(&counted.value),
+            dropped.to_string(),
+            spaces.to_string(),
+        ]
+    };
+    let lent = answer.and_then(|counted| counted.lend(rooms.result));
+    Ok(answer_line(&lent.map(values)))
+}
+
 /// The line of key, serial number and the record after the call.
 fn next_key(answer: Result<NextKey, u8>) -> Result<String, String> {
     let values = |next: NextKey| {
@@ -45,10 +65,10 @@ const REQUESTS: [(&str, Compute); 27] = [
         let (wanted, text) = (i.number()?, i.text()?);
         bytes(key_entry::key_entry(&text, wanted, r.result), r)
     }),
-    ("clean", |i, r| text(cleaning::clean(&i.text()?, r.result), r)),
-    ("message-text", |i, r| text(message::message_text(&i.bytes()?, r.result), r)),
-    ("text-mac", |i, r| bytes(mac::text_mac(&i.bytes()?, &i.text()?), r)),
-    ("message-mac", |i, r| bytes(mac::message_mac(&i.bytes()?, &i.bytes()?), r)),
+    ("clean", |i, r| counted(cleaning::clean(&i.text()?, r.result), r, text_value)),
+    ("message-text", |i, r| counted(message::message_text(&i.bytes()?, r.result), r, text_value)),
+    ("text-mac", |i, r| counted(mac::text_mac(&i.bytes()?, &i.text()?), r, bytes_value)),
+    ("message-mac", |i, r| counted(mac::message_mac(&i.bytes()?, &i.bytes()?), r, bytes_value)),
 
     ("pin-make", |i, r| bytes(pin::make(&i.characters()?), r)),
     ("pin-make-with-card", |i, r| bytes(pin::make_with_card(&i.characters()?, &i.characters()?), r)),

@@ -35,18 +35,25 @@ key-entry/size 8 0 = refused 6
 key-entry/empty 8 - = refused 6
 key-entry/space 8 01234567 9ABCDEF = refused 7
 key-entry/largest 18446744073709551615 0123456789ABCDEF = refused 6
-clean/a ab  c = done AB C
-clean/before   ab = done AB
-clean/after hex:616220 = done AB
-clean/hyphen hex:2D = done -
-clean/hyphens --- = done -
+clean/a ab  c = done AB C 0 1
+clean/before   ab = done AB 0 2
+clean/after hex:616220 = done AB 0 1
+clean/both a - b = done A B 1 1
+clean/hyphen hex:2D = done - 1 0
+clean/hyphens --- = done - 3 0
 clean@3/room ab  c = refused 13
-clean@0/empty - = done -
-clean ab/c@d #e = done ABCD E
-message-text/whole 04000000303230300600030030303030303008002900612D312020202020 = done 0200 000000 A1
+clean@0/empty - = done - 0 0
+clean ab/c@d #e = done ABCD E 3 0
+message-text/whole 04000000303230300600030030303030303008002900612D312020202020 = done 0200 000000 A1 1 5
+message-text@14/room 04000000303230300600030030303030303008002900612D312020202020 = done 0200 000000 A1 1 5
+message-text@13/room 04000000303230300600030030303030303008002900612D312020202020 = refused 13
 message-text@0/empty - = refused 1
+text-mac/done 0123456789ABCDEF hex:202D782D20 = done C49CF44D534EFBC0 2 2
+text-mac@7/room 0123456789ABCDEF hex:202D782D20 = refused 13
 text-mac/empty 133457799BBCDFF1 --- = refused 5
 text-mac/no-key - A = refused 6
+message-mac/done 0123456789ABCDEF 0400000030323030080029002D2D2D2D2D2D2D2D = done DB81035675C65160 8 1
+message-mac@7/room 0123456789ABCDEF 0400000030323030080029002D2D2D2D2D2D2D2D = refused 13
 message-mac/no-key - - = refused 6
 message-mac/empty 133457799BBCDFF1 - = refused 1
 pin-make/f 1234 = done 041234FFFFFFFFFF
@@ -149,8 +156,8 @@ fn self_test_lines() {
 #[test]
 fn bytes_that_are_no_text() {
     let asked = |request: &[u8]| answer(request).unwrap();
-    assert_eq!(asked(b"clean a\xFF\xC3b\r"), "done AB");
-    assert_eq!(asked(b"clean/\xFF a"), "done A");
+    assert_eq!(asked(b"clean a\xFF\xC3b\r"), "done AB 3 0");
+    assert_eq!(asked(b"clean/\xFF a"), "done A 0 0");
     assert_eq!(asked(b"pin-make 12\xFF4"), "refused 7");
 }
 

@@ -2,7 +2,7 @@
 
 mod common;
 
-use common::{described, field, hex, message, sized};
+use common::{counted, described, field, hex, message, sized};
 use second::cleaning::{clean, cleaned};
 use second::dukpt::{next_counter, terminal_next_key};
 use second::key_entry::key_entry;
@@ -14,13 +14,62 @@ const KEY: &[u8] = b"\x13\x34\x57\x79\x9B\xBC\xDF\xF1";
 
 #[test]
 fn a_to_e_cleaning() {
-    let done = |text: &[u8]| clean(text, 1024).unwrap();
-    assert_eq!(done(b"ab  c"), b"AB C");
-    assert_eq!(done(b" -x- "), b"X");
-    assert_eq!(done(b"a - b"), b"A B");
-    assert_eq!(done(b"1,2.3;4"), b"1,2.34");
-    assert_eq!(clean(b"---", 0), Ok(vec![]));
+    assert_eq!(clean(b"ab  c", 1024), counted(b"AB C", 0, 1));
+    assert_eq!(clean(b" -x- ", 1024), counted(b"X", 2, 2));
+    assert_eq!(clean(b"a - b", 1024), counted(b"A B", 1, 1));
+    assert_eq!(clean(b"1,2.3;4", 1024), counted(b"1,2.34", 1, 0));
+    assert_eq!(clean(b"---", 0), counted(b"", 3, 0));
     assert_eq!(text_mac(KEY, b"---"), Err(5));
+}
+
+#[test]
+fn what_cleaning_takes_out() {
+    for (text, after, dropped, spaces) in [
+        (&b""[..], &b""[..], 0, 0),
+        (b"az AZ 09, 1.5", b"AZ AZ 09, 1.5", 0, 0),
+        (b"     ", b"", 0, 5),
+        (b"  a   b  ", b"A B", 0, 6),
+        (b"\0a\xFF\tb\r\n", b"AB", 5, 0),
+        (b"\xA0a\xE1\x80", b"A", 3, 0),
+        (b"/0:9@A[Z`a{z!-+", b"09AZAZ", 9, 0),
+        (b"- - -", b"", 3, 2),
+        (b"a -- - b", b"A B", 3, 2),
+        (b" , . ", b", .", 0, 2),
+    ] {
+        assert_eq!(clean(text, 1024), counted(after, dropped, spaces));
+        let mac = text_mac(KEY, text).map(|mac| (mac.dropped, mac.spaces));
+        let wanted = match after {
+            [] => Err(5),
+            _ => Ok((dropped, spaces)),
+        };
+        assert_eq!(mac, wanted);
+    }
+}
+
+/// Every text of up to five characters out of a kept one, a small letter, a
+/// dropped one and a space: it has as many bytes as its cleaned text and both
+/// counts together.
+#[test]
+fn sizes_before_and_after_cleaning() {
+    for length in 0..=5 {
+        for number in 0..4usize.pow(length) {
+            let character = |place| b"Aa- "[number >> (2 * place) & 3];
+            let text: Vec<u8> = (0..length).map(character).collect();
+            let done = clean(&text, 1024).unwrap();
+            assert_eq!(text.len(), done.value.len() + done.dropped + done.spaces);
+            assert_eq!(clean(&done.value, 1024), counted(&done.value, 0, 0));
+        }
+    }
+}
+
+/// Each byte alone between two letters.
+#[test]
+fn bytes_that_count_as_kept() {
+    for byte in 0..=255u8 {
+        let kept = byte.is_ascii_alphanumeric() || b" ,.".contains(&byte);
+        let done = clean(&[b'a', byte, b'b'], 3).unwrap();
+        assert_eq!((done.dropped == 0, done.spaces), (kept, 0), "{byte:02X}");
+    }
 }
 
 #[test]
@@ -62,26 +111,27 @@ fn whole_message() {
     let message = hex("04 00 00 00 30 32 30 30 06 00 03 00 30 30 30 30 30 30 \
                        08 00 29 00 61 2D 31 20 20 20 20 20");
     let text = b"0200 000000 A1";
-    assert_eq!(message_text(&message, 14), Ok(text.to_vec()));
+    assert_eq!(message_text(&message, 14), counted(text, 1, 5));
     assert_eq!(message_text(&message, 13), Err(13));
     let key = sized("133457799BBCDFF1");
     let first = des::encrypt(&key, b"0200 000");
     let padded = b"000 A1\0\0";
     let second = std::array::from_fn(|i| first[i] ^ padded[i]);
-    let mac = des::encrypt(&key, &second).to_vec();
-    assert_eq!(message_mac(KEY, &message), Ok(mac.clone()));
-    assert_eq!(text_mac(KEY, text), Ok(mac.clone()));
-    assert_eq!(text_mac(KEY, b" 0200  000000 a-1; "), Ok(mac));
+    let mac = des::encrypt(&key, &second);
+    assert_eq!(message_mac(KEY, &message), counted(&mac, 1, 5));
+    assert_eq!(text_mac(KEY, text), counted(&mac, 0, 0));
+    let other = b" 0200  000000 a-1; ";
+    assert_eq!(text_mac(KEY, other), counted(&mac, 2, 3));
 }
 
 #[test]
 fn mac_of_whole_blocks_adds_nothing() {
     let key = sized("133457799BBCDFF1");
     let first = des::encrypt(&key, b"ABCDEFGH");
-    assert_eq!(text_mac(KEY, b"abcdefgh"), Ok(first.to_vec()));
+    assert_eq!(text_mac(KEY, b"abcdefgh"), counted(&first, 0, 0));
     let second = std::array::from_fn(|i| first[i] ^ b"I\0\0\0\0\0\0\0"[i]);
     let longer = des::encrypt(&key, &second);
-    assert_eq!(text_mac(KEY, b"abcdefghi"), Ok(longer.to_vec()));
+    assert_eq!(text_mac(KEY, b"abcdefghi"), counted(&longer, 0, 0));
 }
 
 /// A message with every listed field at its longest, and its text.
@@ -114,7 +164,7 @@ fn longest() -> (Vec<u8>, Vec<u8>) {
 fn longest_message_text_has_166_characters() {
     let (message, text) = longest();
     assert_eq!(text.len(), 166);
-    assert_eq!(message_text(&message, 166), Ok(text));
+    assert_eq!(message_text(&message, 166), counted(&text, 0, 0));
     assert_eq!(message_text(&message, 165), Err(13));
 }
 
@@ -139,18 +189,49 @@ fn unlisted_fields_are_walked_over() {
         (192, b"x"),
     ]);
     let without = message(&[(0, b"0100"), (3, b"123456")]);
-    assert_eq!(message_text(&with, 166), Ok(b"0100 123456".to_vec()));
+    assert_eq!(message_text(&with, 166), counted(b"0100 123456", 0, 0));
     assert_eq!(message_text(&with, 166), message_text(&without, 166));
     assert_eq!(message_mac(KEY, &with), message_mac(KEY, &without));
-    assert_eq!(message_text(&field(0, b"0599"), 4), Ok(b"0599".to_vec()));
+    let type_alone = field(0, b"0599");
+    assert_eq!(message_text(&type_alone, 4), counted(b"0599", 0, 0));
 }
 
 #[test]
 fn ends_of_the_whole_text_are_trimmed_and_not_of_each_field() {
     let first = message(&[(0, b"0200"), (41, b"--------"), (42, b"---------------")]);
-    assert_eq!(message_text(&first, 166), Ok(b"0200".to_vec()));
+    assert_eq!(message_text(&first, 166), counted(b"0200", 23, 2));
     let second = message(&[(0, b"0200"), (41, b" a      "), (42, b"  b            ")]);
-    assert_eq!(message_text(&second, 166), Ok(b"0200 A B".to_vec()));
+    assert_eq!(message_text(&second, 166), counted(b"0200 A B", 0, 21));
+}
+
+/// Fields of a message and its text, the bytes dropped and the spaces that went
+/// out.
+type MessageCase<'a> = (&'a [(u16, &'a [u8])], &'a [u8], usize, usize);
+
+/// The counts of a message are over its joined text: with the spaces between
+/// fields and the length digits, and without the last digits of field 90.
+#[test]
+fn what_cleaning_takes_out_of_messages() {
+    let digits = b"012345678901234567890123456789012345678901";
+    let spaces = [b' '; 15];
+    let cases: [MessageCase; 9] = [
+        (&[], b"0200", 0, 0),
+        (&[(2, b"1234567890123")], b"0200 131234567890123", 0, 0),
+        (&[(90, digits)], b"0200 01234567890123456789", 0, 0),
+        (&[(38, b"a1B2c3")], b"0200 A1B2C3", 0, 0),
+        (&[(42, b"Joe's Fish-&Chi")], b"0200 JOES FISHCHI", 3, 0),
+        (&[(41, b" A  B  C")], b"0200 A B C", 0, 3),
+        (&[(41, &spaces[..8]), (42, &spaces)], b"0200", 0, 25),
+        (&[(41, b" - a - b")], b"0200 A B", 2, 3),
+        (&[(5, b" - - "), (192, b" - ")], b"0200", 0, 0),
+    ];
+    for (fields, text, dropped, spaces) in cases {
+        let message = message(&[&[(0, &b"0200"[..])], fields].concat());
+        assert_eq!(message_text(&message, 166), counted(text, dropped, spaces));
+        let mac = message_mac(KEY, &message).unwrap();
+        assert_eq!((mac.dropped, mac.spaces), (dropped, spaces));
+        assert_eq!(text_mac(KEY, text), counted(&mac.value, 0, 0));
+    }
 }
 
 #[test]

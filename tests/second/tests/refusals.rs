@@ -2,7 +2,7 @@
 
 mod common;
 
-use common::{field, hex, message};
+use common::{counted, field, hex, message};
 use second::cleaning::clean;
 use second::key_entry::key_entry;
 use second::mac::{message_mac, text_mac};
@@ -40,11 +40,11 @@ fn key_entry_6_7_13() {
 #[test]
 fn cleaning_6_13() {
     assert_eq!(clean(&[b' '; 1025], 0), Err(6));
-    assert_eq!(clean(&[b' '; 1024], 0), Ok(vec![]));
+    assert_eq!(clean(&[b' '; 1024], 0), counted(b"", 0, 1024));
     assert_eq!(clean(&[b'a'; 1025], 0), Err(6));
     assert_eq!(clean(&[b'a'; 1024], 1023), Err(13));
-    assert_eq!(clean(&[b'a'; 1024], 1024), Ok(vec![b'A'; 1024]));
-    assert_eq!(clean(b"", 0), Ok(vec![]));
+    assert_eq!(clean(&[b'a'; 1024], 1024), counted(&[b'A'; 1024], 0, 0));
+    assert_eq!(clean(b"", 0), counted(b"", 0, 0));
 }
 
 #[test]
@@ -72,7 +72,7 @@ fn message_size_first() {
     let body = vec![0; 4096 - 8 - 4];
     let whole = message(&[(0, b"0200"), (192, &body)]);
     assert_eq!(whole.len(), 4096);
-    assert_eq!(message_text(&whole, 4), Ok(b"0200".to_vec()));
+    assert_eq!(message_text(&whole, 4), counted(b"0200", 0, 0));
     let longer = message(&[(0, b"0200"), (192, &[body, vec![0]].concat())]);
     assert_eq!(refused(&longer), 6);
 }
@@ -104,7 +104,7 @@ fn message_types() {
         let kind = format!("{number:02}00");
         let text = message_text(&field(0, kind.as_bytes()), 4);
         if [1, 2, 4, 5].contains(&number) {
-            assert_eq!(text, Ok(kind.into_bytes()));
+            assert_eq!(text, counted(kind.as_bytes(), 0, 0));
         } else {
             assert_eq!(text, Err(3));
         }
@@ -117,7 +117,7 @@ fn field_numbers_rise_to_192() {
         let all = [&[(0, &b"0200"[..])], fields].concat();
         message_text(&message(&all), 166)
     };
-    assert_eq!(with(&[(192, b"")]), Ok(b"0200".to_vec()));
+    assert_eq!(with(&[(192, b"")]), counted(b"0200", 0, 0));
     assert_eq!(with(&[(193, b"")]), Err(2));
     assert_eq!(with(&[(0, b"0200")]), Err(2));
     assert_eq!(with(&[(5, b""), (5, b"")]), Err(2));
@@ -175,7 +175,7 @@ fn bodies_of_listed_fields() {
 fn message_13_last() {
     let done = message(&[(0, b"0200"), (3, b"123456")]);
     assert_eq!(message_text(&done, 10), Err(13));
-    assert_eq!(message_text(&done, 11), Ok(b"0200 123456".to_vec()));
+    assert_eq!(message_text(&done, 11), counted(b"0200 123456", 0, 0));
     let bad = message(&[(0, b"0200"), (3, b"12345x")]);
     assert_eq!(message_text(&bad, 0), Err(4));
 }

@@ -21,15 +21,15 @@ returns-2 c =
     rw (k .1) (refused-both (c .refused-text-mac2 .ensures) (k .0))
 
 slice-reshare-prefix-mac-of : tie.Need-slice-reshare-prefix-mac-of
-slice-reshare-prefix-mac-of c = written-done (c .before .before .before .message-text .ensures) (c .if2 .left) .1
+slice-reshare-prefix-mac-of c = written-done (c .before .before .before .message-text .ensures .written) (c .if2 .left) .1
 
 slice-aggregate-mac-of : tie.Need-slice-aggregate-mac-of
-slice-aggregate-mac-of c = sym (length-take-le _ _ (written-done (c .before .before .before .before .message-text .ensures) (c .before .if2 .left) .1))
+slice-aggregate-mac-of c = sym (length-take-le _ _ (written-done (c .before .before .before .before .message-text .ensures .written) (c .before .if2 .left) .1))
 
 returns-3 : tie.Need-returns-3
 returns-3 c =
-    let a = c .before .before .before .before .before .before .before .before .before .before .before .before .args in
-    both-written (a .key .now) (a .message .now) (c .before .before .before .before .before .before .before .before .if1 .left) (c .before .before .before .before .before .before .message-text .ensures) (c .before .before .before .if2 .left) (c .before .mac-of .ensures .value)
+    let a = c .before .before .before .before .before .before .before .before .before .before .before .args in
+    both-written (a .key .now) (a .message .now) (c .before .before .before .before .before .before .before .if1 .left) (c .before .before .before .before .before .message-text .ensures) (c .before .before .if2 .left) (c .mac-of .ensures)
 
 pub message-text-and-mac-spec : {M : Type 1} → statement M
 message-text-and-mac-spec =

@@ -1,6 +1,7 @@
 //! What the tests share.
 #![allow(dead_code)]
 
+use second::cleaning::{Counted, CountedAnswer};
 use second::dukpt::{register_key, Record};
 use second::lines;
 
@@ -24,6 +25,15 @@ pub fn field(number: u16, body: &[u8]) -> Vec<u8> {
 pub fn message(fields: &[(u16, &[u8])]) -> Vec<u8> {
     let records = fields.iter().map(|(number, body)| field(*number, body));
     records.collect::<Vec<_>>().concat()
+}
+
+/// A done value with the bytes dropped and the spaces that went out.
+pub fn counted(value: &[u8], dropped: usize, spaces: usize) -> CountedAnswer {
+    Ok(Counted {
+        value: value.to_vec(),
+        dropped,
+        spaces,
+    })
 }
 
 /// The record that paper 01 describes for a next counter, register by register

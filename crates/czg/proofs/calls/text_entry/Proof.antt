@@ -2,26 +2,23 @@
 use borrow.Author.Needs.{needs}
 use mathlib.Core.Path.{_≡_}
 use native.Mathlib.Omega.{arith}
-use Rattle.czg.specs.Calls.{answers, answerAt}
+use Rattle.czg.specs.Calls.{answers, answerAt, texts, textAt}
 use Rattle.czg.proofs.calls.text_entry.Statement.{statement}
 use Rattle.czg.proofs.calls.text_entry.Tie as tie
 
-returns-7 : tie.Need-returns-7
-unfolding answerAt answers
-returns-7 c =
+returns-4 : tie.Need-returns-4
+unfolding answerAt answers textAt texts
+returns-4 c =
     let s = c .before .before .before .before .before .before .before .before .before in
-    let e : s .args .place ≡ 6 = omega (arith, s .pre, c .before .before .before .before .match .rest) in
+    let e : s .args .place ≡ 6 = omega (arith, s .pre .0, s .pre .1, c .before .before .before .before .match .rest) in
     rw e (c .before .before .czg-message-mac .ensures)
 
 pub text-entry-spec : {M : Type 1} → statement M
-unfolding answerAt answers
+unfolding answerAt answers textAt texts
 text-entry-spec =
     tie.close
-    (tie.spec (λ c κs. search needs) (λ c κs. search needs) (λ c κs. search needs) (λ c κs. search needs) (λ c κs. search needs)
-    (λ c κs. search needs) (λ c κs. search needs) (λ c. search needs) (λ c. rw (c .before .before .before .before .match .keys1) (c .before .before .czg-encrypt .ensures))
-    (λ c. search needs) (λ c. rw (c .before .before .before .before .match .keys2) (c .before .before .czg-decrypt .ensures))
-    (λ c. search needs) (λ c. rw (c .before .before .before .before .match .keys3) (c .before .before .czg-key-entry .ensures))
-    (λ c. search needs) (λ c. rw (c .before .before .before .before .match .keys4) (c .before .before .czg-clean .ensures))
-    (λ c. search needs) (λ c. rw (c .before .before .before .before .match .keys5) (c .before .before .czg-message-text .ensures))
-    (λ c. search needs) (λ c. rw (c .before .before .before .before .match .keys6) (c .before .before .czg-text-mac .ensures))
-    (λ c. search needs) returns-7)
+    (tie.spec (λ c κs. search needs) (λ c κs. search needs) (λ c κs. search needs) (λ c κs. search needs)
+    (λ c. search needs) (λ c. rw (c .before .before .before .before .match .keys1) (c .before .before .czg-clean .ensures))
+    (λ c. search needs) (λ c. rw (c .before .before .before .before .match .keys2) (c .before .before .czg-message-text .ensures))
+    (λ c. search needs) (λ c. rw (c .before .before .before .before .match .keys3) (c .before .before .czg-text-mac .ensures))
+    (λ c. search needs) returns-4)
