@@ -18,7 +18,7 @@ use Rattle.mac.specs.Mac.{messageTextAndMac}
 abbrev pub line : List ℕ → List ℕ
 line text = text ++ 10 ∷ []
 
--- a number in decimal, in at most k digits: below 10 its digit, from there on the digits of its tenth and then its last
+-- a number in decimal, in at most k digits: below 10 its digit, any other the digits of a tenth of it and then its last digit
 unfoldable pub decimalIn : ℕ → ℕ → List ℕ
 decimalIn zero n = []
 decimalIn (suc k) n = pick (ltb n 10) (digitOf n ∷ []) (decimalIn k (n / 10) ++ digitOf (n % 10) ∷ [])
