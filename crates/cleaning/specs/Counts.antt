@@ -35,17 +35,17 @@ countOf count (refused why) = 0
 
 -- the text before cleaning, where the answer is done
 abbrev pub whereDone : {A : Type 0} → Result A → Result (List ℕ) → Result (List ℕ)
-whereDone answer before = andThen answer (λ a. before)
+whereDone answer raw = andThen answer (λ a. raw)
 
 -- The promise of the two numbers: what is counted over the text before cleaning; zeros for a refusal.
-pub record Counted (before : Result (List ℕ)) (d s : ℕ) : Type 0 where
-  pub dropped : d ≡ countOf droppedFrom before
-  pub spaces : s ≡ countOf spacesOutOf before
+pub record Counted (raw : Result (List ℕ)) (d s : ℕ) : Type 0 where
+  pub dropped : d ≡ countOf droppedFrom raw
+  pub spaces : s ≡ countOf spacesOutOf raw
 
 -- The promise of an entry that writes what it makes of a cleaned text into lent memory: what was written, and the two numbers.
-pub record WrittenText (answer before : Result (List ℕ)) (old : List ℕ) (r : TextAnswer) (after : List ℕ) : Type 0 where
-  pub written : Written answer old (r .number) (r .length) after
-  pub counted : Counted (whereDone (lend (length old) answer) before) (r .dropped) (r .spaces)
+pub record WrittenText (answer raw : Result (List ℕ)) (before : List ℕ) (r : TextAnswer) (after : List ℕ) : Type 0 where
+  pub written : Written answer before (r .number) (r .length) after
+  pub counted : Counted (whereDone (lend (length before) answer) raw) (r .dropped) (r .spaces)
 
 -- the answer of a refusal
 abbrev pub refusedText : ℕ → TextAnswer

@@ -60,7 +60,7 @@ answer (after c) = counterIn (afterKey (recordWith c))
 
 -- how many bytes cleaning dropped and how many spaces went out; zeros where the answer is a refusal
 abbrev pub countsOf : List ℕ → Result (List ℕ) → List ℕ
-countsOf text made = let before = whereDone made (done text) in countOf droppedFrom before ∷ countOf spacesOutOf before ∷ []
+countsOf text made = let raw = whereDone made (done text) in countOf droppedFrom raw ∷ countOf spacesOutOf raw ∷ []
 
 -- these two numbers where a text is cleaned, and none elsewhere
 unfoldable pub counts : Input → List ℕ
