@@ -83,6 +83,10 @@ balance (x ∷ s) started owed h =
     let b = balance s started owed h in
     simp (n, k) (omega (arith, b .0, b .1, no-space x s n, one-dropped x s k))))
 
+-- a cleaned text has no more spaces than the text, so that the spaces that go out are their difference
+pub no-more-spaces : (s : List ℕ) → spacesIn (cleaned s) ≤ spacesIn s
+no-more-spaces s = rw cleaned-pass (omega (arith, balance s 0 0 (omega arith) .1))
+
 -- a text's size is that of the cleaned text, with the bytes that are dropped and the spaces that go out
 pub sizes : (s : List ℕ) → length s ≡ length (cleaned s) + droppedFrom s + spacesOutOf s
 unfolding spacesOutOf
