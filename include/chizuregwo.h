@@ -1,8 +1,9 @@
 /*
  * chizuregwo.h: the cryptography of rented card terminals.
  *
- * DES and two-key triple DES, key entry, the MAC of a text and of an online message, PIN blocks, chip-card keys and
- * cryptograms, and DUKPT on the host and in the terminal. C99 and C++. Link with libchizuregwo.a.
+ * DES and two-key triple DES, key entry, the MAC of a text and of an online message, the blocks of PINs, passwords and VIP
+ * numbers, chip-card keys and cryptograms, and DUKPT on the host and in the terminal. C99 and C++. Link with
+ * libchizuregwo.a.
  *
  * Every entry but czg_version has one shape: what it reads (bytes lent as a pointer and a size; a number in six
  * entries), what it writes (bytes lent as a pointer and a size), and an answer by value. A key that is used comes first.
@@ -44,16 +45,21 @@ extern "C" {
 #define CZG_FIELD_FORM 4    /* a listed field has the wrong length or characters */
 #define CZG_EMPTY_TEXT 5    /* MAC asked over a text that is empty after cleaning */
 #define CZG_SIZE 6          /* a length or size is outside its range */
-#define CZG_CHARACTER 7     /* a character is not a digit, or not hexadecimal, where one is asked */
-#define CZG_NO_SUCH_PIN 8   /* a PIN block comes from no permitted PIN */
+#define CZG_CHARACTER 7     /* a character is not a digit, hexadecimal or a password's, where one is asked */
+#define CZG_BAD_BLOCK 8     /* a block comes from no permitted PIN, password or VIP number */
 #define CZG_EQUAL_HALVES 9  /* the two halves of a derivation key agree without the low bit of each byte */
 #define CZG_BAD_COUNTER 10  /* host counter is 0 or has more than ten one bits */
 #define CZG_BAD_RECORD 11   /* terminal state does not hang together */
 #define CZG_EXHAUSTED 12    /* terminal exhausted */
 #define CZG_SHORT_BUFFER 13 /* lent buffer shorter than the result */
 
+/* Another name for 8, from when PIN blocks alone were read. */
+#define CZG_NO_SUCH_PIN CZG_BAD_BLOCK
+
 /* Sizes in bytes, and ranges. */
 #define CZG_BLOCK_SIZE 8            /* a block, a MAC, a cryptogram, a PIN block */
+#define CZG_PASSWORD_BLOCK_SIZE 24  /* a password block */
+#define CZG_VIP_BLOCK_SIZE 16       /* a VIP block */
 #define CZG_KEY_SIZE 8              /* a single-length key */
 #define CZG_DOUBLE_KEY_SIZE 16      /* a double-length key, left half first */
 #define CZG_SERIAL_NUMBER_SIZE 10   /* a serial number; its last 21 bits are the counter */
@@ -63,6 +69,10 @@ extern "C" {
 #define CZG_MOST_MESSAGE_TEXT 166   /* a message's MAC text */
 #define CZG_LEAST_PIN 4             /* digits of a PIN */
 #define CZG_MOST_PIN 12
+#define CZG_LEAST_PASSWORD 6        /* characters of a password */
+#define CZG_MOST_PASSWORD 20
+#define CZG_LEAST_VIP_NUMBER 11     /* digits of a VIP number */
+#define CZG_MOST_VIP_NUMBER 19
 #define CZG_LEAST_CARD_NUMBER 13    /* digits of a card number */
 #define CZG_MOST_CARD_NUMBER 19
 #define CZG_MOST_CARD_SEQUENCE 99   /* card sequence number, from 0 */
@@ -217,6 +227,26 @@ czg_answer czg_pin_decrypt(const uint8_t *key, size_t key_size, const uint8_t *b
 /* The same with card number. Refusals: 6 (key, block, card number), 7, 8, 13. */
 czg_answer czg_pin_decrypt_with_card(const uint8_t *key, size_t key_size, const uint8_t *block, size_t block_size,
                                      const uint8_t *card, size_t card_size, uint8_t *out, size_t out_size);
+
+/* ---- Password and VIP blocks. A password is 6 to 20 characters from 21 to 7E hex, a VIP number 11 to 19 text digits. ---- */
+
+/*
+ * Clear password block: two decimal characters of length, the password, then FF hex to the end. Writes 24 bytes.
+ * Refusals: 6, 7, 13.
+ */
+czg_answer czg_password_make(const uint8_t *password, size_t password_size, uint8_t *out, size_t out_size);
+
+/* The password of a clear block of 24 bytes: the password that makes the block. Refusals: 6, 8, 13. */
+czg_answer czg_password_read(const uint8_t *block, size_t block_size, uint8_t *out, size_t out_size);
+
+/*
+ * Clear VIP block: two decimal half-bytes of length, the digits as half-bytes, then F to the end. Writes 16 bytes.
+ * Refusals: 6, 7, 13.
+ */
+czg_answer czg_vip_make(const uint8_t *digits, size_t digits_size, uint8_t *out, size_t out_size);
+
+/* The VIP number of a clear block of 16 bytes, as text digits: the number that makes the block. Refusals: 6, 8, 13. */
+czg_answer czg_vip_read(const uint8_t *block, size_t block_size, uint8_t *out, size_t out_size);
 
 /* ---- The card's keys and cryptograms ---- */
 

@@ -128,6 +128,25 @@ int main(void)
     same("pin_decrypt_with_card", czg_pin_decrypt_with_card(hex("0123456789ABCDEF"), 8, hex("864C0D7C2D6C8B94"), 8, card, 16, out, room),
          4, text("1234"));
 
+    /* Source document 003 prints 25 bytes of the password's block, one FF too many. */
+    const char *password_block = "303948656C6C6F21313233FFFFFFFFFFFFFFFFFFFFFFFFFFFF", *vip_block = "191234567890123456789FFFFFFFFFFF";
+    same("password_make", czg_password_make(text("Hello!123"), 9, out, room), CZG_PASSWORD_BLOCK_SIZE, hex(password_block));
+    refused("password_make, size", czg_password_make(text("Hello"), CZG_LEAST_PASSWORD - 1, out, room), CZG_SIZE);
+    refused("password_make, space", czg_password_make(text("Hello 123"), 9, out, room), CZG_CHARACTER);
+    refused("password_make, no room", czg_password_make(text("Hello!123"), 9, out, CZG_PASSWORD_BLOCK_SIZE - 1), CZG_SHORT_BUFFER);
+    same("password_read", czg_password_read(hex(password_block), CZG_PASSWORD_BLOCK_SIZE, out, CZG_MOST_PASSWORD), 9, text("Hello!123"));
+    refused("password_read, printed", czg_password_read(hex(password_block), 25, out, room), CZG_SIZE);
+    refused("password_read", czg_password_read(hex("303848656C6C6F21313233FFFFFFFFFFFFFFFFFFFFFFFFFF"), 24, out, room), CZG_BAD_BLOCK);
+    refused("password_read, no room", czg_password_read(hex(password_block), 24, out, 8), CZG_SHORT_BUFFER);
+    same("vip_make", czg_vip_make(text("1234567890123456789"), CZG_MOST_VIP_NUMBER, out, room), CZG_VIP_BLOCK_SIZE, hex(vip_block));
+    refused("vip_make, size", czg_vip_make(text("1234567890"), CZG_LEAST_VIP_NUMBER - 1, out, room), CZG_SIZE);
+    refused("vip_make, letter", czg_vip_make(text("1234567890A"), 11, out, room), CZG_CHARACTER);
+    refused("vip_make, no room", czg_vip_make(text("12345678901"), 11, out, CZG_VIP_BLOCK_SIZE - 1), CZG_SHORT_BUFFER);
+    same("vip_read", czg_vip_read(hex(vip_block), CZG_VIP_BLOCK_SIZE, out, CZG_MOST_VIP_NUMBER + 1), 19, text("1234567890123456789"));
+    refused("vip_read, size", czg_vip_read(hex(vip_block), 15, out, room), CZG_SIZE);
+    refused("vip_read, hexadecimal", czg_vip_read(hex("131234567890123456789FFFFFFFFFFF"), 16, out, room), CZG_BAD_BLOCK);
+    refused("vip_read, no room", czg_vip_read(hex(vip_block), 16, out, 18), CZG_SHORT_BUFFER);
+
     same("derivation_data", czg_derivation_data(text("6228000100001"), 13, 1, out, room), 8, hex("0622800010000101"));
     same("card_key", czg_card_key(hex("0123456789ABCDEFFEDCBA9876543210"), 16, text("4219876543210987"), 16, 0, out, room),
          16, hex("9249345E0220CEBA0D20D6A2453BF407"));

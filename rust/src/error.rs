@@ -18,10 +18,10 @@ pub enum Error {
     EmptyText,
     /// 6: a length or size is outside its range.
     Size,
-    /// 7: a character is not a digit, or not hexadecimal, where one is asked.
+    /// 7: a character is not a digit, hexadecimal or a password's, where one is asked.
     Character,
-    /// 8: a PIN block comes from no permitted PIN.
-    NoSuchPin,
+    /// 8: a block comes from no permitted PIN, password or VIP number.
+    BadBlock,
     /// 9: the two halves of a derivation key agree without the low bit of each byte.
     EqualHalves,
     /// 10: host counter is 0 or has more than ten one bits.
@@ -45,7 +45,7 @@ const ALL: [Error; 13] = [
     Error::EmptyText,
     Error::Size,
     Error::Character,
-    Error::NoSuchPin,
+    Error::BadBlock,
     Error::EqualHalves,
     Error::BadCounter,
     Error::BadRecord,
@@ -54,6 +54,10 @@ const ALL: [Error; 13] = [
 ];
 
 impl Error {
+    /// Another name for [`Error::BadBlock`], from when PIN blocks alone were read.
+    #[allow(non_upper_case_globals)]
+    pub const NoSuchPin: Error = Error::BadBlock;
+
     /// The refusal of a number; none for 0, which is done.
     ///
     /// ```
@@ -82,9 +86,12 @@ impl Error {
             Error::Size => (6, "a length or size is outside its range"),
             Error::Character => (
                 7,
-                "a character is not a digit, or not hexadecimal, where one is asked",
+                "a character is not a digit, hexadecimal or a password's, where one is asked",
             ),
-            Error::NoSuchPin => (8, "a PIN block comes from no permitted PIN"),
+            Error::BadBlock => (
+                8,
+                "a block comes from no permitted PIN, password or VIP number",
+            ),
             Error::EqualHalves => (
                 9,
                 "the two halves of a derivation key agree without the low bit of each byte",

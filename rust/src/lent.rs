@@ -103,6 +103,10 @@ extern "C" {
         out: Buffer, out_size: usize) -> Answer;
     fn czg_pin_decrypt_with_card(key: Bytes, key_size: usize, block: Bytes, block_size: usize,
         card: Bytes, card_size: usize, out: Buffer, out_size: usize) -> Answer;
+    fn czg_password_make(password: Bytes, password_size: usize, out: Buffer, out_size: usize) -> Answer;
+    fn czg_password_read(block: Bytes, block_size: usize, out: Buffer, out_size: usize) -> Answer;
+    fn czg_vip_make(digits: Bytes, digits_size: usize, out: Buffer, out_size: usize) -> Answer;
+    fn czg_vip_read(block: Bytes, block_size: usize, out: Buffer, out_size: usize) -> Answer;
     fn czg_derivation_data(card: Bytes, card_size: usize, sequence: u32, out: Buffer, out_size: usize) -> Answer;
     fn czg_card_key(master_key: Bytes, master_key_size: usize, card: Bytes, card_size: usize,
         sequence: u32, out: Buffer, out_size: usize) -> Answer;
@@ -225,6 +229,26 @@ pub fn pin_decrypt_with_card(
     out: &mut [u8],
 ) -> Result<usize, Error> {
     call!(czg_pin_decrypt_with_card(key, block, card) into out)
+}
+
+/// [`password_make`](crate::password_make) into a buffer.
+pub fn password_make(password: &[u8], out: &mut [u8]) -> Result<usize, Error> {
+    call!(czg_password_make(password) into out)
+}
+
+/// [`password_read`](crate::password_read) into a buffer.
+pub fn password_read(block: &[u8], out: &mut [u8]) -> Result<usize, Error> {
+    call!(czg_password_read(block) into out)
+}
+
+/// [`vip_make`](crate::vip_make) into a buffer.
+pub fn vip_make(digits: &[u8], out: &mut [u8]) -> Result<usize, Error> {
+    call!(czg_vip_make(digits) into out)
+}
+
+/// [`vip_read`](crate::vip_read) into a buffer.
+pub fn vip_read(block: &[u8], out: &mut [u8]) -> Result<usize, Error> {
+    call!(czg_vip_read(block) into out)
 }
 
 /// [`derivation_data`](crate::derivation_data) into a buffer.

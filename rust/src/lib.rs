@@ -1,5 +1,6 @@
 //! The cryptography of rented card terminals: DES and two-key triple DES, key entry, the MAC of a text and of an online
-//! message, PIN blocks, chip-card keys and cryptograms, and DUKPT on the host and in the terminal.
+//! message, the blocks of PINs, passwords and VIP numbers, chip-card keys and cryptograms, and DUKPT on the host and in the
+//! terminal.
 //!
 //! Safe functions over `libchizuregwo.a`, one for each of its entries. Each but [`version`] returns the result, or an
 //! [`Error`] with the refusal's number and meaning. The module [`lent`] has the same entries over buffers of the caller's own.
@@ -24,6 +25,12 @@ pub type Block = [u8; 8];
 
 /// A double-length key, left half first: 16 bytes.
 pub type DoubleKey = [u8; 16];
+
+/// A password block: 24 bytes.
+pub type PasswordBlock = [u8; PASSWORD_BLOCK_SIZE];
+
+/// A VIP block: 16 bytes.
+pub type VipBlock = [u8; VIP_BLOCK_SIZE];
 
 /// A cleaned text, and what cleaning threw away. Both counts are over the text before cleaning; a message's is the joined
 /// one, with the length digits and the spaces between fields. That text has as many bytes as the cleaned one, plus
@@ -54,6 +61,24 @@ pub const MOST_MESSAGE_TEXT: usize = 166;
 
 /// Most digits of a PIN.
 pub const MOST_PIN: usize = 12;
+
+/// Size in bytes of a password block.
+pub const PASSWORD_BLOCK_SIZE: usize = 24;
+
+/// Fewest characters of a password.
+pub const LEAST_PASSWORD: usize = 6;
+
+/// Most characters of a password.
+pub const MOST_PASSWORD: usize = 20;
+
+/// Size in bytes of a VIP block.
+pub const VIP_BLOCK_SIZE: usize = 16;
+
+/// Fewest digits of a VIP number.
+pub const LEAST_VIP_NUMBER: usize = 11;
+
+/// Most digits of a VIP number.
+pub const MOST_VIP_NUMBER: usize = 19;
 
 /// Most characters of the meaning of a number.
 pub const MOST_MEANING: usize = 78;
@@ -246,7 +271,7 @@ pub fn pin_make_with_card(pin: &[u8], card: &[u8]) -> Result<Block, Error> {
 /// ```
 /// use chizuregwo::{pin_read, Error};
 /// assert_eq!(pin_read(&[0x04, 0x12, 0x34, 0xFF, 0xFF, 0xFF, 0xFF, 0xFF])?, b"1234");
-/// assert_eq!(pin_read(&[0x03, 0x12, 0x3F, 0xFF, 0xFF, 0xFF, 0xFF, 0xFF]), Err(Error::NoSuchPin));
+/// assert_eq!(pin_read(&[0x03, 0x12, 0x3F, 0xFF, 0xFF, 0xFF, 0xFF, 0xFF]), Err(Error::BadBlock));
 /// # Ok::<(), Error>(())
 /// ```
 pub fn pin_read(block: &[u8]) -> Result<Vec<u8>, Error> {
@@ -314,6 +339,63 @@ pub fn pin_decrypt_with_card(key: &[u8], block: &[u8], card: &[u8]) -> Result<Ve
     at_most(MOST_PIN, |out| {
         lent::pin_decrypt_with_card(key, block, card, out)
     })
+}
+
+/// Clear block of a password of 6 to 20 characters from 21 to 7E hex: two decimal characters of length, the password, then
+/// FF hex to the end. Refusals: 6, 7.
+///
+/// ```
+/// use chizuregwo::{password_make, Error};
+/// let block = password_make(b"Hello!123")?;
+/// assert_eq!(block[..11], [0x30, 0x39, 0x48, 0x65, 0x6C, 0x6C, 0x6F, 0x21, 0x31, 0x32, 0x33]);
+/// assert_eq!(block[11..], [0xFF; 13]);
+/// assert_eq!(password_make(b"Hello 123"), Err(Error::Character));
+/// # Ok::<(), Error>(())
+/// ```
+pub fn password_make(password: &[u8]) -> Result<PasswordBlock, Error> {
+    fixed(|out| lent::password_make(password, out))
+}
+
+/// The password of a clear block of 24 bytes. Refusals: 6, 8.
+///
+/// ```
+/// use chizuregwo::{password_make, password_read, Error};
+/// let mut block = password_make(b"Hello!123")?;
+/// assert_eq!(password_read(&block)?, b"Hello!123");
+/// block[23] = b' ';
+/// assert_eq!(password_read(&block), Err(Error::BadBlock));
+/// # Ok::<(), Error>(())
+/// ```
+pub fn password_read(block: &[u8]) -> Result<Vec<u8>, Error> {
+    at_most(MOST_PASSWORD, |out| lent::password_read(block, out))
+}
+
+/// Clear block of a VIP number of 11 to 19 digits: two decimal half-bytes of length, the digits as half-bytes, then F to the
+/// end. Refusals: 6, 7.
+///
+/// ```
+/// let block = chizuregwo::vip_make(b"1234567890123456789")?;
+/// assert_eq!(block[..8], [0x19, 0x12, 0x34, 0x56, 0x78, 0x90, 0x12, 0x34]);
+/// assert_eq!(block[8..], [0x56, 0x78, 0x9F, 0xFF, 0xFF, 0xFF, 0xFF, 0xFF]);
+/// # Ok::<(), chizuregwo::Error>(())
+/// ```
+pub fn vip_make(digits: &[u8]) -> Result<VipBlock, Error> {
+    fixed(|out| lent::vip_make(digits, out))
+}
+
+/// The VIP number of a clear block of 16 bytes, as text digits. Refusals: 6, 8.
+///
+/// ```
+/// use chizuregwo::{vip_make, vip_read, Error};
+/// let mut block = vip_make(b"1234567890123456789")?;
+/// assert_eq!(vip_read(&block)?, b"1234567890123456789");
+/// // The length is in decimal: 13 hex is not 19.
+/// block[0] = 0x13;
+/// assert_eq!(vip_read(&block), Err(Error::BadBlock));
+/// # Ok::<(), Error>(())
+/// ```
+pub fn vip_read(block: &[u8]) -> Result<Vec<u8>, Error> {
+    at_most(MOST_VIP_NUMBER, |out| lent::vip_read(block, out))
 }
 
 /// Y: the card number and two digits of sequence (0 to 99), its rightmost 16 digits, zeros put on the left if short.

@@ -4,6 +4,7 @@ mod common;
 
 use chizuregwo::*;
 use common::{hex, DERIVATION_KEY, SERIAL_NUMBER};
+use std::fmt::Debug;
 
 const CARD: &[u8] = b"4219876543210987";
 const TYPE: &[u8] = b"\x04\0\0\x000200";
@@ -290,6 +291,183 @@ fn encrypted_pin_blocks() {
     );
 }
 
+/// A kind of block that holds a text: its entries into a buffer, the block of a text by its rule, and the longest text.
+struct TextBlock {
+    make: fn(&[u8], &mut [u8]) -> Result<usize, Error>,
+    read: fn(&[u8], &mut [u8]) -> Result<usize, Error>,
+    block_of: fn(&str) -> Vec<u8>,
+    least: usize,
+    longest: &'static str,
+}
+
+const PASSWORD: TextBlock = TextBlock {
+    make: lent::password_make,
+    read: lent::password_read,
+    block_of: |password| {
+        let start = format!("{:02}{password}", password.len());
+        filled(start.as_bytes(), PASSWORD_BLOCK_SIZE)
+    },
+    least: LEAST_PASSWORD,
+    longest: "!~aZ09\"'-hex:#/@\\^`$",
+};
+
+const VIP: TextBlock = TextBlock {
+    make: lent::vip_make,
+    read: lent::vip_read,
+    block_of: |digits| {
+        let start = format!("{:02}{digits}", digits.len());
+        hex(&format!("{start:F<32}"))
+    },
+    least: LEAST_VIP_NUMBER,
+    longest: "9081726354453627180",
+};
+
+/// Some bytes with FF after them, up to a size.
+fn filled(start: &[u8], size: usize) -> Vec<u8> {
+    assert!(start.len() <= size);
+    let mut block = start.to_vec();
+    block.resize(size, 0xFF);
+    block
+}
+
+/// An entry must refuse so and leave the buffer as it was.
+fn refused(error: Error, entry: impl Fn(&mut [u8]) -> Result<usize, Error>) {
+    for room in [0, 32] {
+        let mut out = vec![0xA5; room];
+        assert_eq!(entry(&mut out), Err(error));
+        assert_eq!(out, vec![0xA5; room]);
+    }
+}
+
+#[test]
+fn printed_password_and_vip_blocks() {
+    // Source document 003 prints 25 bytes, one FF too many.
+    let printed = hex("303948656C6C6F21313233FFFFFFFFFFFFFFFFFFFFFFFFFFFF");
+    let block = &printed[..24];
+    assert_eq!(password_make(b"Hello!123").unwrap(), *block);
+    assert_eq!(password_read(block), Ok(b"Hello!123".to_vec()));
+    assert_eq!(password_read(&printed), Err(Error::Size));
+    let (number, block) = (b"1234567890123456789", "191234567890123456789FFFFFFFFFFF");
+    same(vip_make(number), block);
+    assert_eq!(vip_read(&hex(block)), Ok(number.to_vec()));
+}
+
+#[test]
+fn password_and_vip_blocks_of_every_length() {
+    for kind in [PASSWORD, VIP] {
+        for length in kind.least..=kind.longest.len() {
+            let text = &kind.longest[..length];
+            let block = (kind.block_of)(text);
+            in_every_room(&block, block.len(), |out| (kind.make)(text.as_bytes(), out));
+            in_every_room(text.as_bytes(), length, |out| (kind.read)(&block, out));
+        }
+    }
+}
+
+#[test]
+fn password_and_vip_blocks_of_other_sizes() {
+    for kind in [PASSWORD, VIP] {
+        let longer = format!("{}0", kind.longest);
+        for text in ["", &kind.longest[..kind.least - 1], &longer] {
+            refused(Error::Size, |out| (kind.make)(text.as_bytes(), out));
+        }
+        refused(Error::Size, |out| (kind.make)(b"   ", out));
+        let block = (kind.block_of)(kind.longest);
+        let longer = filled(&block, block.len() + 1);
+        for block in [&[], &block[1..], &block[..block.len() - 1], &longer] {
+            refused(Error::Size, |out| (kind.read)(block, out));
+        }
+    }
+}
+
+#[test]
+fn password_and_vip_characters() {
+    for (kind, permitted) in [(PASSWORD, 0x21..=0x7E), (VIP, b'0'..=b'9')] {
+        for character in 0..=255 {
+            for place in [0, kind.least - 1] {
+                let mut text = kind.longest.as_bytes()[..kind.least].to_vec();
+                text[place] = character;
+                if permitted.contains(&character) {
+                    let block = (kind.block_of)(std::str::from_utf8(&text).unwrap());
+                    in_every_room(&block, block.len(), |out| (kind.make)(&text, out));
+                    in_every_room(&text, text.len(), |out| (kind.read)(&block, out));
+                } else {
+                    refused(Error::Character, |out| (kind.make)(&text, out));
+                }
+            }
+        }
+    }
+}
+
+#[test]
+fn blocks_of_no_permitted_password() {
+    for start in [
+        &b"05abcde"[..],             // five characters
+        b"21abcdefghijklmnopqrstu",  // 21
+        b"22abcdefghijklmnopqrstuv", // 22
+        b"00",                       // none
+        b"06abcdefg",                // one fewer than stand there
+        b"07abcdef",                 // one more
+        b"0Aabcdefghij",             // ten in hexadecimal
+        b"14abcdefghijklmnopqrst",   // 20 in hexadecimal
+        b"\0\x06abcdef",             // six, not in characters
+        b" 6abcdef",                 // six with a space before
+        b"1:abcdefghijklmnopqrst",   // 20, as 1 and 10
+        b"/@abcdef",                 // six, as -1 and 16
+        b"06abcdef ",                // fill of a space
+        b"06abcdef\0",               // of zero
+        b"06abcdef0",                // of a digit
+        b"06abcdef\xFE",             // of FE
+        b"06 bcdef",                 // a space first
+        b"06abc ef",                 // between
+        b"06abcde ",                 // last
+        b"06\x7Fbcdef",              // 7F
+        b"06abcde\x80",              // 80
+        b"06abc\xFFef",              // FF
+        b"",                         // FF alone
+    ] {
+        let block = filled(start, PASSWORD_BLOCK_SIZE);
+        refused(Error::BadBlock, |out| lent::password_read(&block, out));
+    }
+    let mut block = password_make(PASSWORD.longest.as_bytes()).unwrap();
+    for fill in [0, b' ', b'0', 0xFE] {
+        block[PASSWORD_BLOCK_SIZE - 1] = fill;
+        assert_eq!(password_read(&block), Err(Error::BadBlock));
+    }
+}
+
+#[test]
+fn blocks_of_no_permitted_vip_number() {
+    for start in [
+        "101234567890",                     // ten digits
+        "2012345678901234567890",           // 20
+        "30123456789012345678901234567890", // 30
+        "00",                               // none
+        "11123456789012",                   // one fewer than stand there
+        "1212345678901F",                   // one more
+        "0B12345678901F",                   // eleven in hexadecimal
+        "131234567890123456789F",           // 19 in hexadecimal
+        "1112345678901234567F",             // 17 in hexadecimal
+        "F112345678901F",                   // eleven with F before
+        "11123456789010",                   // fill of 0
+        "1112345678901E",                   // of E
+        "1112345678901FEF",                 // of E after F
+        "11A2345678901F",                   // a half-byte above 9 first
+        "11123456789B1F",                   // between
+        "111234567890EF",                   // last
+        "11123456789F1F",                   // F
+        "",                                 // F alone
+    ] {
+        let block = filled(&hex(start), VIP_BLOCK_SIZE);
+        refused(Error::BadBlock, |out| lent::vip_read(&block, out));
+    }
+    let mut block = vip_make(VIP.longest.as_bytes()).unwrap();
+    for fill in [0, 0xF0, 0x0F, 0xFE, 0xEF] {
+        block[VIP_BLOCK_SIZE - 1] = fill;
+        assert_eq!(vip_read(&block), Err(Error::BadBlock));
+    }
+}
+
 #[test]
 fn card_keys_and_cryptograms() {
     same(derivation_data(CARD, 0), "1987654321098700");
@@ -365,40 +543,56 @@ fn buffers_keep_their_bytes() {
     assert_eq!(out.to_vec(), hex("041234FFFFFFFFFFA5A5A5A5"));
 }
 
-/// Calls an entry with every room up to 12: 13 where it is short, else this length with these counts, and no byte after it
-/// is written.
-fn in_every_room(
-    (length, dropped, spaces): (usize, usize, usize),
+/// Calls an entry with every room up to four bytes more than its result has: 13 where it is short, else this answer and the
+/// result, and no other byte is written.
+fn in_every_room<W: Copy + Debug + PartialEq>(
+    result: &[u8],
+    written: W,
+    entry: impl Fn(&mut [u8]) -> Result<W, Error>,
+) {
+    for room in 0..=result.len() + 4 {
+        let mut out = vec![0xA5; room];
+        let answer = entry(&mut out);
+        let untouched = if room < result.len() {
+            assert_eq!(answer, Err(Error::ShortBuffer));
+            &out[..]
+        } else {
+            assert_eq!(answer, Ok(written));
+            assert_eq!(out[..result.len()], *result);
+            &out[result.len()..]
+        };
+        assert!(untouched.iter().all(|byte| *byte == 0xA5));
+    }
+}
+
+/// The same for an entry that cleans a text.
+fn cleaned_in_every_room(
+    result: &[u8],
+    (dropped, spaces): (usize, usize),
     entry: impl Fn(&mut [u8]) -> Result<lent::WrittenText, Error>,
 ) {
+    let length = result.len();
     let written = lent::WrittenText {
         length,
         dropped,
         spaces,
     };
-    for room in 0..=12 {
-        let mut out = vec![0xA5; room];
-        let answer = entry(&mut out);
-        let untouched = if room < length {
-            assert_eq!(answer, Err(Error::ShortBuffer));
-            &out[..]
-        } else {
-            assert_eq!(answer, Ok(written));
-            &out[length..]
-        };
-        assert!(untouched.iter().all(|byte| *byte == 0xA5));
-    }
+    in_every_room(result, written, entry);
 }
 
 #[test]
 fn cleaned_texts_in_buffers() {
     let key = hex("0123456789ABCDEF");
     let message = message(&[(41, b" - a - b")]);
-    in_every_room((0, 2, 0), |out| lent::clean(b"--", out));
-    in_every_room((3, 1, 3), |out| lent::clean(b" a - b ", out));
-    in_every_room((8, 2, 3), |out| lent::message_text(&message, out));
-    in_every_room((8, 1, 3), |out| lent::text_mac(&key, b" a - b ", out));
-    in_every_room((8, 2, 3), |out| lent::message_mac(&key, &message, out));
+    cleaned_in_every_room(b"", (2, 0), |out| lent::clean(b"--", out));
+    cleaned_in_every_room(b"A B", (1, 3), |out| lent::clean(b" a - b ", out));
+    cleaned_in_every_room(b"0200 A B", (2, 3), |out| lent::message_text(&message, out));
+    cleaned_in_every_room(&hex("77E77CBD7C75ABEC"), (1, 3), |out| {
+        lent::text_mac(&key, b" a - b ", out)
+    });
+    cleaned_in_every_room(&hex("A544B5E0D9DE3B60"), (2, 3), |out| {
+        lent::message_mac(&key, &message, out)
+    });
 }
 
 #[test]
@@ -442,18 +636,9 @@ fn unknown_numbers_are_errors_too() {
 fn meanings_in_buffers() {
     for number in 0..14 {
         let text = meaning(number).unwrap();
-        for room in 0..=MOST_MEANING + 1 {
-            let mut out = vec![0xA5; room];
-            let answer = lent::meaning(number, &mut out);
-            if room < text.len() {
-                assert_eq!(answer, Err(Error::ShortBuffer));
-                assert_eq!(out, vec![0xA5; room]);
-            } else {
-                assert_eq!(answer, Ok(text.len()));
-                assert_eq!(out[..text.len()], *text.as_bytes());
-                assert!(out[text.len()..].iter().all(|byte| *byte == 0xA5));
-            }
-        }
+        in_every_room(text.as_bytes(), text.len(), |out| {
+            lent::meaning(number, out)
+        });
     }
     assert_eq!(lent::meaning(14, &mut []), Err(Error::Size));
 }

@@ -5,6 +5,8 @@ pub mod cards;
 pub mod ciphers;
 pub mod hosts;
 pub mod messages;
+pub mod passwords;
 pub mod pins;
 pub mod terminals;
 pub mod versions;
+pub mod vip_numbers;

@@ -10,6 +10,8 @@ use Rattle.cleaning.specs.Cleaning.{cleanText}
 use Rattle.message.specs.Text.{joinedText, messageText}
 use Rattle.mac.specs.Mac.{textMac, messageMac}
 use Rattle.pinblock.specs.Entries as Pin
+use Rattle.password.specs.Password
+use Rattle.vip.specs.Vip
 use Rattle.card.specs.Entries as Card
 use Rattle.host.specs.Entries.{initialKey, hostKey}
 use Rattle.recordbytes.specs.Calls.{loadedBytes}
@@ -35,6 +37,10 @@ answers a b c x =
     ∷ Pin.encryptWithCard a b c
     ∷ Pin.decrypt a b
     ∷ Pin.decryptWithCard a b c
+    ∷ Password.make a
+    ∷ Password.read a
+    ∷ Vip.make a
+    ∷ Vip.read a
     ∷ Card.derivationData a (x % 4294967296)
     ∷ Card.cardKey a b (x % 4294967296)
     ∷ Card.unadjustedCardKey a b (x % 4294967296)

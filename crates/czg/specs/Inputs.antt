@@ -15,7 +15,8 @@ hyphen = 45 ∷ []
 abbrev pub hex : List ℕ
 hex = 104 ∷ 101 ∷ 120 ∷ 58 ∷ []
 
--- `-` says no bytes. A PIN, a card number and a text are their characters, or what stands in hexadecimal after `hex:`; all else is hexadecimal.
+-- `-` says no bytes. A PIN, a card number, a password, a VIP number and a text are their characters, or what stands in hexadecimal after `hex:`; all else is
+-- hexadecimal.
 unfoldable pub inputBytes : Bool → List ℕ → Result (List ℕ)
 inputBytes characters part =
     pick (same hyphen part) (done [])

@@ -11,8 +11,10 @@ use chizuregwo::cards;
 use chizuregwo::ciphers;
 use chizuregwo::hosts;
 use chizuregwo::messages;
+use chizuregwo::passwords;
 use chizuregwo::pins;
 use chizuregwo::terminals;
+use chizuregwo::vip_numbers;
 ghost use Prim.Native.Nat.{_≤_, _<_};
 ghost use lib.ListN.{length, take};
 ghost use Rattle.lent.specs.Result.{Written};
@@ -21,10 +23,10 @@ ghost use Rattle.czg.specs.Calls.{answerAt, textAt};
 ghost use Rattle.czg.specs.Private.{Within, answerFor, textFor};
 
 // The place of `terminal-next-key`, which has two values and a record to be changed.
-pub(crate) const NEXT_KEY: usize = 25;
+pub(crate) const NEXT_KEY: usize = 29;
 
 // The place of `self-test`, which has no value.
-pub(crate) const SELF_TEST: usize = 26;
+pub(crate) const SELF_TEST: usize = 30;
 
 // The cipher and key entry.
 fn cipher_entry(place: usize, a: &[u8], b: &[u8], c: &[u8], x: u64, out: &mut [u8]) -> lent::Answer
@@ -75,28 +77,48 @@ fn pin_entry(place: usize, a: &[u8], b: &[u8], c: &[u8], x: u64, out: &mut [u8])
     }
 }
 
-// A card's keys and cryptograms; the host's derivations; the loading of a terminal; a number's meaning. Numbers are in their range, as they were read.
-fn key_entry(place: usize, a: &[u8], b: &[u8], c: &[u8], x: u64, out: &mut [u8]) -> lent::Answer
-    requires { ⌜ (15 ≤ place) × (place < 25) ⌝ }
+// Passwords and VIP numbers.
+fn password_or_vip_entry(
+    place: usize,
+    a: &[u8],
+    b: &[u8],
+    c: &[u8],
+    x: u64,
+    out: &mut [u8],
+) -> lent::Answer
+    requires { ⌜ (15 ≤ place) × (place < 19) ⌝ }
     ensures { λ r. ⌜ Written (answerAt place (now (a .entry)) (now (b .entry)) (now (c .entry)) x) (now (out .entry)) (r .number) (r .length) (now (out .exit)) ⌝ }
 {
     match place {
-        15 => cards::czg_derivation_data(a, (x % 4294967296) as u32, out),
-        16 => cards::czg_card_key(a, b, (x % 4294967296) as u32, out),
-        17 => cards::czg_card_key_unadjusted(a, b, (x % 4294967296) as u32, out),
-        18 => cards::czg_session_key(a, (x % 65536) as u16, out),
-        19 => cards::czg_arqc(a, b, out),
-        20 => cards::czg_arpc(a, b, c, out),
-        21 => hosts::czg_initial_key(a, b, out),
-        22 => hosts::czg_host_key(a, b, out),
-        23 => terminals::czg_terminal_load(a, b, out),
+        15 => passwords::czg_password_make(a, out),
+        16 => passwords::czg_password_read(a, out),
+        17 => vip_numbers::czg_vip_make(a, out),
+        _ => vip_numbers::czg_vip_read(a, out),
+    }
+}
+
+// A card's keys and cryptograms; the host's derivations; the loading of a terminal; a number's meaning. Numbers are in their range, as they were read.
+fn key_entry(place: usize, a: &[u8], b: &[u8], c: &[u8], x: u64, out: &mut [u8]) -> lent::Answer
+    requires { ⌜ (19 ≤ place) × (place < 29) ⌝ }
+    ensures { λ r. ⌜ Written (answerAt place (now (a .entry)) (now (b .entry)) (now (c .entry)) x) (now (out .entry)) (r .number) (r .length) (now (out .exit)) ⌝ }
+{
+    match place {
+        19 => cards::czg_derivation_data(a, (x % 4294967296) as u32, out),
+        20 => cards::czg_card_key(a, b, (x % 4294967296) as u32, out),
+        21 => cards::czg_card_key_unadjusted(a, b, (x % 4294967296) as u32, out),
+        22 => cards::czg_session_key(a, (x % 65536) as u16, out),
+        23 => cards::czg_arqc(a, b, out),
+        24 => cards::czg_arpc(a, b, c, out),
+        25 => hosts::czg_initial_key(a, b, out),
+        26 => hosts::czg_host_key(a, b, out),
+        27 => terminals::czg_terminal_load(a, b, out),
         _ => messages::czg_meaning((x % 4294967296) as u32, out),
     }
 }
 
 // Calls an entry that writes one value. One that cleans no text throws nothing away.
 fn call(place: usize, a: &[u8], b: &[u8], c: &[u8], x: u64, out: &mut [u8]) -> cleaning::TextAnswer
-    requires { ⌜ place < 25 ⌝ }
+    requires { ⌜ place < 29 ⌝ }
     ensures { λ r. ⌜ WrittenText (answerAt place (now (a .entry)) (now (b .entry)) (now (c .entry)) x) (textAt place (now (a .entry)) (now (b .entry))) (now (out .entry)) r (now (out .exit)) ⌝ }
 {
     if place < 3 {
@@ -108,13 +130,16 @@ fn call(place: usize, a: &[u8], b: &[u8], c: &[u8], x: u64, out: &mut [u8]) -> c
     if place < 15 {
         return cleaning::counted(pin_entry(place, a, b, c, x, out), 0, 0);
     }
+    if place < 19 {
+        return cleaning::counted(password_or_vip_entry(place, a, b, c, x, out), 0, 0);
+    }
     cleaning::counted(key_entry(place, a, b, c, x, out), 0, 0)
 }
 
-// Whether an entry's value is a text or the digits of a PIN.
+// Whether an entry's value is a text, a PIN, a password or a VIP number.
 fn is_text(place: usize) -> bool {
     match place {
-        3 | 4 | 9 | 10 | 13 | 14 | 24 => true,
+        3 | 4 | 9 | 10 | 13 | 14 | 16 | 18 | 28 => true,
         _ => false,
     }
 }
@@ -158,7 +183,7 @@ fn call_with_room(
     bytes: &[u8],
     value: &mut [u8],
 ) -> cleaning::TextAnswer
-    requires { ⌜ place < 25 ⌝ }
+    requires { ⌜ place < 29 ⌝ }
     requires { ⌜ Within i (length (now bytes)) ⌝ }
     requires { ⌜ room ≤ length (now value) ⌝ }
     ensures { λ r. ⌜ WrittenText (answerFor place i (now (bytes .entry))) (textFor place i (now (bytes .entry))) (take room (now (value .entry))) r (take room (now (value .exit))) ⌝ }
@@ -178,7 +203,7 @@ fn call_with_room(
 
 // Answers a request with one value.
 fn answer_one(place: usize, i: Inputs, room: usize, bytes: &[u8], out: &mut [u8], n: usize) -> usize
-    requires { ⌜ place < 25 ⌝ }
+    requires { ⌜ place < 29 ⌝ }
     requires { ⌜ Within i (length (now bytes)) ⌝ }
     requires { ⌜ room ≤ 1024 ⌝ }
     requires { ⌜ n ≤ length (now out) ⌝ }

@@ -99,12 +99,18 @@ fn most_number(word: &[u8]) -> u64 {
     0
 }
 
-// Whether an input is written as its characters: a PIN, a card number, a text.
+// Whether an input is written as its characters: a PIN, a card number, a password, a VIP number, a text.
 fn is_characters(word: &[u8]) -> bool {
     if lent::same(word, b"PIN") {
         return true;
     }
     if lent::same(word, b"CARD") {
+        return true;
+    }
+    if lent::same(word, b"PASSWORD") {
+        return true;
+    }
+    if lent::same(word, b"DIGITS") {
         return true;
     }
     lent::same(word, b"TEXT")

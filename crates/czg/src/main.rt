@@ -40,6 +40,10 @@ pin-encrypt KEY PIN
 pin-encrypt-with-card KEY PIN CARD
 pin-decrypt KEY BLOCK
 pin-decrypt-with-card KEY BLOCK CARD
+password-make PASSWORD
+password-read BLOCK
+vip-make DIGITS
+vip-read BLOCK
 derivation-data CARD SEQUENCE
 card-key MASTER-KEY CARD SEQUENCE
 card-key-unadjusted MASTER-KEY CARD SEQUENCE
@@ -52,8 +56,8 @@ terminal-load INITIAL-KEY SERIAL-NUMBER
 meaning NUMBER
 terminal-next-key RECORD
 self-test
-# A request is one of these on a line, single spaces between: PIN and CARD as such, TEXT as such to the end of the line,
-# SIZE, SEQUENCE, COUNTER and NUMBER in decimal, any other in hexadecimal, - for no bytes. PIN, CARD and TEXT of any bytes: hex: and hexadecimal.
+# A request is one of these on a line, single spaces between: PIN, CARD, PASSWORD and DIGITS as such, TEXT as such to the end of the line,
+# SIZE, SEQUENCE, COUNTER and NUMBER in decimal, any other in hexadecimal, - for no bytes. For any bytes, what is as such may be hex: and hexadecimal.
 # NAME@ROOM lends so many bytes for the result. NAME/LABEL names a case. Answers: done and the values, refused and the number, unknown and why.
 # After the value of clean, message-text, text-mac and message-mac: how many bytes of the text cleaning dropped, and how many spaces went out.
 # self-test takes no input and no room. Its answer is done, or failed and the number of the check.

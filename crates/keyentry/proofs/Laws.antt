@@ -14,7 +14,7 @@ use Rattle.keyentry.specs.Hexadecimal.{textOf}
 use Rattle.keyentry.specs.KeyEntry.{keySize, keyEntry}
 use Rattle.keyentry.specs.declared.units.Bytes.{Bytes}
 use Rattle.keyentry.proofs.Sizes.{passes, entered}
-use Rattle.keyentry.proofs.Texts.{text-read, text-made, text-length, key-length}
+use Rattle.keyentry.proofs.Texts.{text-read, text-made, text-length, bytes-length}
 
 -- the hexadecimal text of a key, in capitals (65) or in small letters (97), gives the key back
 pub text-entered : (letter : ℕ) → (letter ≡ 65) ⊎ (letter ≡ 97) → (key : List ℕ) (wanted : Bytes)
@@ -36,6 +36,6 @@ entered-text text key wanted e =
     let same = same-done (h .3) in
     record {
       size = h .0;
-      count = ap length (sym same) ∙ key-length text (wanted .0) (h .1);
+      count = ap length (sym same) ∙ bytes-length text (wanted .0) (h .1);
       text-of = text-read text (wanted .0) (h .1) (h .2) ∙ ap (textOf 65) same;
     }

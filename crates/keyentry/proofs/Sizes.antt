@@ -12,29 +12,30 @@ use Rattle.lent.specs.Characters.{hexadecimal}
 use Rattle.lent.specs.Refusals.{size, character}
 use Rattle.lent.specs.Result.{done, require}
 use Rattle.lent.proofs.Results.{require-done}
-use Rattle.keyentry.specs.KeyEntry.{keyOf, textBytes, keySize, fullText, keyEntry}
+use Rattle.keyentry.specs.Hexadecimal.{bytesOf}
+use Rattle.keyentry.specs.KeyEntry.{textBytes, keySize, fullText, keyEntry}
 use Rattle.keyentry.specs.declared.units.Bytes.{Bytes}
 
 module _ (text : List ℕ) where
-  pub decoded : eqb (length text % 2) 0 ≡ true → all hexadecimal text ≡ true → textBytes text ≡ done (keyOf text)
+  pub decoded : eqb (length text % 2) 0 ≡ true → all hexadecimal text ≡ true → textBytes text ≡ done (bytesOf text)
   unfolding textBytes
   decoded o h = simp (o, h)
 
   -- a text that is not refused passes both tests
-  pub decodes : {key : List ℕ} → textBytes text ≡ done key → (all hexadecimal text ≡ true) × (done (keyOf text) ≡ done key)
+  pub decodes : {key : List ℕ} → textBytes text ≡ done key → (all hexadecimal text ≡ true) × (done (bytesOf text) ≡ done key)
   unfolding textBytes
   decodes {key} e =
-      require-done (all hexadecimal text) character (done (keyOf text)) key
-      (require-done (eqb (length text % 2) 0) size (require (all hexadecimal text) character (done (keyOf text))) key e .1)
+      require-done (all hexadecimal text) character (done (bytesOf text)) key
+      (require-done (eqb (length text % 2) 0) size (require (all hexadecimal text) character (done (bytesOf text))) key e .1)
 
 module _ (text : List ℕ) (wanted : Bytes) where
-  pub entered : keySize wanted ≡ true → length text ≡ 2 * wanted .0 → all hexadecimal text ≡ true → keyEntry text wanted ≡ done (keyOf text)
+  pub entered : keySize wanted ≡ true → length text ≡ 2 * wanted .0 → all hexadecimal text ≡ true → keyEntry text wanted ≡ done (bytesOf text)
   unfolding keyEntry
   entered s f h = let even : length text % 2 ≡ 0 = omega arith in simp (s, eq-eqb _ _ f) (decoded text (eq-eqb _ _ even) h)
 
   -- a text that is not refused passes all three tests
   pub passes : {key : List ℕ} → keyEntry text wanted ≡ done key
-      → (keySize wanted ≡ true) × (length text ≡ 2 * wanted .0) × (all hexadecimal text ≡ true) × (done (keyOf text) ≡ done key)
+      → (keySize wanted ≡ true) × (length text ≡ 2 * wanted .0) × (all hexadecimal text ≡ true) × (done (bytesOf text) ≡ done key)
   unfolding keyEntry
   passes {key} e =
       let s = require-done (keySize wanted) size (require (fullText text wanted) size (textBytes text)) key e in

@@ -1,5 +1,5 @@
 -- Hexadecimal digits and their values, by tests that are computed for every digit, and the text of bytes.
-use borrow.Author.Tests.{eqb-true, ltb-true}
+use borrow.Author.Tests.{eqb-true, lt-ltb, ltb-true}
 use mathlib.Core.Path.{_≡_, refl, ap}
 use mathlib.Core.Bool.{Bool, true}
 use mathlib.Core.Logic.{_⊎_, inl, inr}
@@ -16,8 +16,7 @@ use Rattle.lent.specs.Choice.{both, pick, all}
 use Rattle.lent.specs.Characters.{digit, small, capitalized, hexadecimal}
 use Rattle.lent.specs.Words.{byte}
 use Rattle.lent.proofs.Laws.{cases, both-true, between-true, holdsFrom, holds-below}
-use Rattle.keyentry.specs.Hexadecimal.{valueOf, hexadecimalDigit, textOf}
-use Rattle.keyentry.specs.KeyEntry.{keyOf}
+use Rattle.keyentry.specs.Hexadecimal.{valueOf, hexadecimalDigit, textOf, bytesOf}
 
 -- ---- one digit
 
@@ -60,8 +59,8 @@ digit-made letter case n h =
 -- ---- texts
 
 -- a text of hexadecimal digits is the text of its bytes, its letters' case aside
-pub text-read : (text : List ℕ) (n : ℕ) → length text ≡ 2 * n → all hexadecimal text ≡ true → map capitalized text ≡ textOf 65 (keyOf text)
-unfolding keyOf textOf
+pub text-read : (text : List ℕ) (n : ℕ) → length text ≡ 2 * n → all hexadecimal text ≡ true → map capitalized text ≡ textOf 65 (bytesOf text)
+unfolding bytesOf textOf
 text-read [] n e h = refl
 text-read (x ∷ []) n e h = absurd (omega arith)
 text-read (x ∷ y ∷ s) zero e h = absurd (omega arith)
@@ -73,17 +72,29 @@ text-read (x ∷ y ∷ s) (suc n) e h =
     rw (digits-div (valueOf x) (dy .1), digits-mod (valueOf x) (dy .1), dx .0, dy .0, text-read s n (omega arith) (hy .1))
 
 -- its bytes are half as many
-pub key-length : (text : List ℕ) (n : ℕ) → length text ≡ 2 * n → length (keyOf text) ≡ n
-unfolding keyOf
-key-length [] n e = omega arith
-key-length (x ∷ []) n e = absurd (omega arith)
-key-length (x ∷ y ∷ s) zero e = absurd (omega arith)
-key-length (x ∷ y ∷ s) (suc n) e = ap suc (key-length s n (omega arith))
+pub bytes-length : (text : List ℕ) (n : ℕ) → length text ≡ 2 * n → length (bytesOf text) ≡ n
+unfolding bytesOf
+bytes-length [] n e = omega arith
+bytes-length (x ∷ []) n e = absurd (omega arith)
+bytes-length (x ∷ y ∷ s) zero e = absurd (omega arith)
+bytes-length (x ∷ y ∷ s) (suc n) e = ap suc (bytes-length s n (omega arith))
+
+-- they are bytes
+pub bytes-below : (text : List ℕ) → all hexadecimal text ≡ true → all byte (bytesOf text) ≡ true
+unfolding bytesOf
+bytes-below [] h = refl
+bytes-below (x ∷ []) h = refl
+bytes-below (x ∷ y ∷ s) h =
+    let hx = both-true (hexadecimal x) (all hexadecimal (y ∷ s)) h in
+    let hy = both-true (hexadecimal y) (all hexadecimal s) (hx .1) in
+    let dx = digit-read x (hx .0) in
+    let dy = digit-read y (hy .0) in
+    rw (lt-ltb (valueOf x * 16 + valueOf y) 256 (omega (arith, dx .1, dy .1))) (bytes-below s (hy .1))
 
 module _ (letter : ℕ) (case : (letter ≡ 65) ⊎ (letter ≡ 97)) where
   -- the text of bytes is hexadecimal, and gives the bytes back
-  pub text-made : (key : List ℕ) → all byte key ≡ true → (all hexadecimal (textOf letter key) ≡ true) × (keyOf (textOf letter key) ≡ key)
-  unfolding keyOf textOf
+  pub text-made : (key : List ℕ) → all byte key ≡ true → (all hexadecimal (textOf letter key) ≡ true) × (bytesOf (textOf letter key) ≡ key)
+  unfolding bytesOf textOf
   text-made [] b = (refl, refl)
   text-made (x ∷ s) b =
       let hx = both-true (byte x) (all byte s) b in

@@ -1,6 +1,6 @@
 -- Hexadecimal digits, with letters of either case (01, Digits and bytes).
 use mathlib.Core.List.{List, [], _∷_}
-use Prim.Native.Nat.{ℕ, _+_, _-_, _/_, _%_}
+use Prim.Native.Nat.{ℕ, _+_, _-_, _*_, _/_, _%_}
 use lib.Dec.{ltb}
 use Rattle.lent.specs.Choice.{pick}
 use Rattle.lent.specs.Characters.{digit, digitValue, digitOf, capitalized}
@@ -17,3 +17,9 @@ hexadecimalDigit letter n = pick (ltb n 10) (digitOf n) (letter + (n - 10))
 unfoldable pub textOf : ℕ → List ℕ → List ℕ
 textOf letter [] = []
 textOf letter (b ∷ s) = hexadecimalDigit letter (b / 16) ∷ hexadecimalDigit letter (b % 16) ∷ textOf letter s
+
+-- the bytes of a hexadecimal text: one for each two digits
+unfoldable pub bytesOf : List ℕ → List ℕ
+bytesOf (high ∷ low ∷ s) = (valueOf high * 16 + valueOf low) ∷ bytesOf s
+bytesOf (high ∷ []) = []
+bytesOf [] = []

@@ -1,7 +1,7 @@
 -- Key entry: the key of a text and a wanted size (01, Digits and bytes).
 use mathlib.Core.Bool.{Bool}
-use mathlib.Core.List.{List, [], _∷_}
-use Prim.Native.Nat.{ℕ, _+_, _*_, _%_}
+use mathlib.Core.List.{List}
+use Prim.Native.Nat.{ℕ, _*_, _%_}
 use lib.Dec.{eqb}
 use lib.ListN.{length}
 use Rattle.lent.specs.Choice.{all}
@@ -9,18 +9,12 @@ use Rattle.lent.specs.Characters.{hexadecimal}
 use Rattle.lent.specs.Keys.{keySizes}
 use Rattle.lent.specs.Refusals.{size, character}
 use Rattle.lent.specs.Result.{Result, done, require}
-use Rattle.keyentry.specs.Hexadecimal.{valueOf}
+use Rattle.keyentry.specs.Hexadecimal.{bytesOf}
 use Rattle.keyentry.specs.declared.units.Bytes.{Bytes}
-
--- the bytes of a text: a byte for each two digits
-unfoldable pub keyOf : List ℕ → List ℕ
-keyOf (high ∷ low ∷ s) = (valueOf high * 16 + valueOf low) ∷ keyOf s
-keyOf (high ∷ []) = []
-keyOf [] = []
 
 -- the bytes of a text of any size, or the refusal: 6 where it does not have two digits for each byte
 unfoldable pub textBytes : List ℕ → Result (List ℕ)
-textBytes text = require (eqb (length text % 2) 0) size (require (all hexadecimal text) character (done (keyOf text)))
+textBytes text = require (eqb (length text % 2) 0) size (require (all hexadecimal text) character (done (bytesOf text)))
 
 -- the wanted size is one of a key
 abbrev pub keySize : Bytes → Bool

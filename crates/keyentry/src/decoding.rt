@@ -10,8 +10,8 @@ ghost use lib.ListN.{length, getD};
 ghost use Rattle.lent.specs.Choice.{all};
 ghost use Rattle.lent.specs.Characters.{hexadecimal};
 ghost use Rattle.lent.specs.Result.{Written, done, over};
-ghost use Rattle.keyentry.specs.Hexadecimal.{valueOf};
-ghost use Rattle.keyentry.specs.KeyEntry.{keyOf, textBytes};
+ghost use Rattle.keyentry.specs.Hexadecimal.{valueOf, bytesOf};
+ghost use Rattle.keyentry.specs.KeyEntry.{textBytes};
 
 // The byte whose two digits stand in the text at its place.
 fn byte_of(text: &[u8], place: Bytes) -> u8
@@ -31,7 +31,7 @@ fn put_bytes(text: &[u8], size: Bytes, out: &mut [u8])
     requires { ⌜ length (now text) ≡ 2 * size .0 ⌝ }
     requires { ⌜ all hexadecimal (now text) ≡ true ⌝ }
     requires { ⌜ size .0 ≤ length (now out) ⌝ }
-    ensures { λ _. ⌜ now (out .exit) ≡ over (keyOf (now (text .entry))) (now (out .entry)) ⌝ }
+    ensures { λ _. ⌜ now (out .exit) ≡ over (bytesOf (now (text .entry))) (now (out .entry)) ⌝ }
 {
     let bytes = size.0;
     let mut i: usize = 0;
@@ -45,7 +45,7 @@ fn put_bytes(text: &[u8], size: Bytes, out: &mut [u8])
 fn lend_bytes(text: &[u8], size: Bytes, out: &mut [u8]) -> lent::Answer
     requires { ⌜ length (now text) ≡ 2 * size .0 ⌝ }
     requires { ⌜ all hexadecimal (now text) ≡ true ⌝ }
-    ensures { λ r. ⌜ Written (done (keyOf (now (text .entry)))) (now (out .entry)) (r .number) (r .length) (now (out .exit)) ⌝ }
+    ensures { λ r. ⌜ Written (done (bytesOf (now (text .entry)))) (now (out .entry)) (r .number) (r .length) (now (out .exit)) ⌝ }
 {
     let bytes = size.0;
     if bytes > out.len() {

@@ -1,6 +1,6 @@
 -- Laws on half-bytes: those of digits, and the word of half-bytes.
 use borrow.Author.Tests.{lt-ltb}
-use mathlib.Core.Path.{_≡_, refl, sym, _∙_}
+use mathlib.Core.Path.{_≡_, sym, _∙_}
 use mathlib.Core.Bool.{Bool, true}
 use mathlib.Core.List.{List, [], _∷_, _++_, map, map-append, append-assoc}
 use Prim.Native.Nat.{ℕ, suc, _+_, _-_, _*_, _%_, _^_, _<_, _≤_}
@@ -15,8 +15,8 @@ use Rattle.lent.specs.Choice.{all}
 use Rattle.lent.specs.HalfBytes.{lowHalf, wordOf}
 use Rattle.lent.specs.Words.{fromBase, toBase}
 use Rattle.lent.proofs.Bases.{to-length, from-to}
-use Rattle.lent.proofs.Laws.{both-true, between-true}
-use Rattle.lent.proofs.Lists.{all-map}
+use Rattle.lent.proofs.Laws.{between-true}
+use Rattle.lent.proofs.Lists.{all-map, map-all}
 use Rattle.lent.proofs.Parts.{from-front}
 
 -- ---- digits
@@ -32,11 +32,7 @@ values-half-bytes =
 
 -- two changes that agree on digits
 pub map-digits : (f g : ℕ → ℕ) → ((x : ℕ) → 48 ≤ x → x ≤ 57 → f x ≡ g x) → (s : List ℕ) → all digit s ≡ true → map f s ≡ map g s
-map-digits f g h [] e = refl
-map-digits f g h (x ∷ s) e =
-    let b = both-true (digit x) (all digit s) e in
-    let k = between-true 48 57 x (b .0) in
-    rw (h x (k .0) (k .1), map-digits f g h s (b .1))
+map-digits f g h = map-all digit f g (λ x e. let k = between-true 48 57 x e in h x (k .0) (k .1))
 
 -- a digit's low half-byte is its value
 pub low-digits : (s : List ℕ) → all digit s ≡ true → map lowHalf s ≡ map digitValue s

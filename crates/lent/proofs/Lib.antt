@@ -6,3 +6,5 @@ pub mod HalfBytes
 pub mod Results
 pub mod Appending
 pub mod Prefixes
+pub mod Frames
+pub mod ReadsBack

@@ -2,7 +2,7 @@
 use borrow.Author.Tests.{ltb-true, ltb-false}
 use mathlib.Core.Path.{_≡_, refl}
 use mathlib.Core.Bool.{Bool, true}
-use mathlib.Core.List.{List, [], _∷_, _++_, map}
+use mathlib.Core.List.{List, [], _∷_, _++_, map, map-id}
 use Prim.Native.Nat.{ℕ, zero, suc, _-_, _<_, _≤_}
 use native.Mathlib.Nat.{sub-zero, zero-sub, suc-sub-suc, le-of-suc-le-suc}
 use native.Mathlib.Omega.{arith}
@@ -58,6 +58,15 @@ take-replicate (suc k) (suc n) x h = rw (take-replicate k n x (le-of-suc-le-suc 
 pub all-map : (p q : ℕ → Bool) (f : ℕ → ℕ) → ((x : ℕ) → p x ≡ true → q (f x) ≡ true) → (s : List ℕ) → all p s ≡ true → all q (map f s) ≡ true
 all-map p q f h [] e = refl
 all-map p q f h (x ∷ s) e = let b = both-true (p x) (all p s) e in simp (h x (b .0), all-map p q f h s (b .1))
+
+-- two changes that agree on what passes a test
+pub map-all : (p : ℕ → Bool) (f g : ℕ → ℕ) → ((x : ℕ) → p x ≡ true → f x ≡ g x) → (s : List ℕ) → all p s ≡ true → map f s ≡ map g s
+map-all p f g h [] e = refl
+map-all p f g h (x ∷ s) e = let b = both-true (p x) (all p s) e in rw (h x (b .0), map-all p f g h s (b .1))
+
+-- what passes a test passes a weaker one
+pub all-weaker : (p q : ℕ → Bool) → ((x : ℕ) → p x ≡ true → q x ≡ true) → (s : List ℕ) → all p s ≡ true → all q s ≡ true
+all-weaker p q h s e = rw (map-id s) at (all-map p q (λ x. x) h s e)
 
 module _ (p : ℕ → Bool) where
   pub all-append : (s t : List ℕ) → all p (s ++ t) ≡ both (all p s) (all p t)

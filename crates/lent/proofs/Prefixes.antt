@@ -1,6 +1,6 @@
--- Whether a text stands at the start of another, place by place.
-use borrow.Author.Tests.{eq-eqb, ne-eqb}
-use mathlib.Core.Path.{_≡_}
+-- Whether a text stands at the start of another, place by place, and whether it is the other.
+use borrow.Author.Tests.{eqb-true, eq-eqb, ne-eqb}
+use mathlib.Core.Path.{_≡_, refl}
 use mathlib.Core.Bool.{true, false}
 use mathlib.Core.List.{List, [], _∷_}
 use Prim.Native.Nat.{ℕ, _+_, _≤_, _<_}
@@ -8,7 +8,7 @@ use native.Mathlib.Omega.{arith}
 use lib.Dec.{eqb}
 use lib.ListN.{length, getD, drop, drop-of-length-le}
 use Rattle.lent.proofs.Laws.{drop-next, both-true, never}
-use Rattle.lent.specs.Texts.{startsWith}
+use Rattle.lent.specs.Texts.{startsWith, same}
 
 module _ (text s : List ℕ) (i : ℕ) where
   -- the whole text was found
@@ -38,3 +38,31 @@ unfolding startsWith
 starts-length [] s h = omega arith
 starts-length (x ∷ text) [] h = never (cc)
 starts-length (x ∷ text) (y ∷ s) h = omega (arith, starts-length text s (both-true (eqb y x) (startsWith text s) h .1))
+
+-- ---- texts that are the same
+
+same-starts : (text s : List ℕ) → length s ≡ length text → startsWith text s ≡ true → text ≡ s
+unfolding startsWith
+same-starts [] [] e h = refl
+same-starts [] (y ∷ s) e h = absurd (omega arith)
+same-starts (x ∷ text) [] e h = absurd (omega arith)
+same-starts (x ∷ text) (y ∷ s) e h =
+    let b = both-true (eqb y x) (startsWith text s) h in
+    rw (eqb-true y x (b .0), same-starts text s (omega arith) (b .1))
+
+-- a text that passes the test is the other
+pub same-true : (text s : List ℕ) → same text s ≡ true → text ≡ s
+unfolding same
+same-true text s h =
+    let b = both-true (eqb (length s) (length text)) (startsWith text s) h in
+    same-starts text s (eqb-true (length s) (length text) (b .0)) (b .1)
+
+starts-self : (s : List ℕ) → startsWith s s ≡ true
+unfolding startsWith
+starts-self [] = refl
+starts-self (x ∷ s) = rw (eq-eqb x x refl) (starts-self s)
+
+-- every text passes it with itself
+pub same-self : (s : List ℕ) → same s s ≡ true
+unfolding same
+same-self s = rw (eq-eqb (length s) (length s) refl) (starts-self s)

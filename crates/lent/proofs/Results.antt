@@ -9,7 +9,7 @@ use lib.Dec.{leb}
 use lib.ListN.{length, take, drop, replicate, length-append, length-drop, drop-of-length-le}
 use lib.Seq.{take-append-seam}
 use Rattle.lent.proofs.Laws.{cases, never}
-use Rattle.lent.specs.Refusals.{Refusal, numberOf, cutShort, fieldOrder, messageType, fieldForm, emptyText, size, character, noSuchPin, equalHalves, badCounter, badRecord, exhausted, shortBuffer}
+use Rattle.lent.specs.Refusals.{Refusal, numberOf, cutShort, fieldOrder, messageType, fieldForm, emptyText, size, character, badBlock, equalHalves, badCounter, badRecord, exhausted, shortBuffer}
 use Rattle.lent.specs.Result.{Result, done, refused, number, require, andThen, bytes, lend, over, Answered, Written}
 use Rattle.lent.specs.declared.answers.Answer.{Answer}
 use Rattle.lent.specs.declared.answers.Block.{Block}
@@ -24,7 +24,7 @@ not-zero fieldForm e = omega arith
 not-zero emptyText e = omega arith
 not-zero size e = omega arith
 not-zero character e = omega arith
-not-zero noSuchPin e = omega arith
+not-zero badBlock e = omega arith
 not-zero equalHalves e = omega arith
 not-zero badCounter e = omega arith
 not-zero badRecord e = omega arith

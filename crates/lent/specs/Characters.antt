@@ -5,7 +5,7 @@ use Prim.Native.Nat.{ℕ, _+_, _-_}
 use Rattle.lent.specs.Choice.{between, either, pick}
 use Rattle.lent.specs.Words.{toBase}
 use Rattle.lent.specs.declared.characters.Kind.{Kind}
-use Rattle.lent.specs.declared.characters.Kind.the-variants.{Digits, HexadecimalDigits, LettersOrDigits, Printable}
+use Rattle.lent.specs.declared.characters.Kind.the-variants.{Digits, HexadecimalDigits, LettersOrDigits, Printable, Graphic}
 
 -- 0 to 9
 abbrev pub digit : ℕ → Bool
@@ -35,6 +35,10 @@ capitalized x = pick (small x) (x - 32) x
 abbrev pub printable : ℕ → Bool
 printable x = between 32 126 x
 
+-- 21 to 7E hex
+abbrev pub graphic : ℕ → Bool
+graphic x = between 33 126 x
+
 -- a letter of either case, or a digit
 unfoldable pub letterOrDigit : ℕ → Bool
 letterOrDigit x = either (capital x) (either (small x) (digit x))
@@ -49,6 +53,7 @@ ofKind Digits = digit
 ofKind HexadecimalDigits = hexadecimal
 ofKind LettersOrDigits = letterOrDigit
 ofKind Printable = printable
+ofKind Graphic = graphic
 
 -- the last two decimal digits of a number
 abbrev pub twoDigits : ℕ → List ℕ

@@ -3,9 +3,11 @@ pub mod Words
 pub mod HalfBytes
 pub mod Characters
 pub mod Texts
+pub mod Frames
 pub mod CardNumbers
 pub mod Keys
 pub mod Refusals
 pub mod Result
 pub mod Appending
+pub mod ReadsBack
 pub mod Private

@@ -14,10 +14,10 @@ pub data Refusal : Type 0 where
   emptyText : Refusal
   -- a length or size is outside its range
   size : Refusal
-  -- a character is not a digit, or not hexadecimal, where one is asked
+  -- a character is not a digit, hexadecimal or a password's, where one is asked
   character : Refusal
-  -- a PIN block comes from no permitted PIN
-  noSuchPin : Refusal
+  -- a block comes from no permitted PIN, password or VIP number
+  badBlock : Refusal
   -- the two halves of a derivation key agree without the low bit of each byte
   equalHalves : Refusal
   -- host counter is 0 or has more than ten one bits
@@ -38,7 +38,7 @@ numberOf fieldForm = 4
 numberOf emptyText = 5
 numberOf size = 6
 numberOf character = 7
-numberOf noSuchPin = 8
+numberOf badBlock = 8
 numberOf equalHalves = 9
 numberOf badCounter = 10
 numberOf badRecord = 11

@@ -14,6 +14,8 @@ pub enum Kind {
     LettersOrDigits,
     // 20 to 7E hex.
     Printable,
+    // 21 to 7E hex.
+    Graphic,
 }
 
 // Whether x is from lo to hi.
@@ -75,6 +77,7 @@ fn is_of_kind(kind: Kind, x: u8) -> bool
         Kind::HexadecimalDigits => is_hexadecimal(x),
         Kind::LettersOrDigits => is_letter_or_digit(x),
         Kind::Printable => between(b' ', b'~', x),
+        Kind::Graphic => between(b'!', b'~', x),
     }
 }
 

@@ -1,6 +1,7 @@
 // What the entries share: the numbers of the refusals, their answers, words and characters in lent memory.
 mod answers;
 mod characters;
+mod framing;
 mod half_bytes;
 mod memory;
 mod numbers;
@@ -22,10 +23,12 @@ pub use characters::between;
 pub use characters::capitalized;
 pub use characters::is_digit;
 pub use characters::two_digits;
+pub use framing::framed_text;
 pub use half_bytes::with_half_bytes;
 pub use memory::append;
 pub use memory::lend;
 pub use memory::lend_word;
+pub use numbers::BAD_BLOCK;
 pub use numbers::BAD_COUNTER;
 pub use numbers::BAD_RECORD;
 pub use numbers::CHARACTER;
@@ -37,7 +40,6 @@ pub use numbers::EXHAUSTED;
 pub use numbers::FIELD_FORM;
 pub use numbers::FIELD_ORDER;
 pub use numbers::MESSAGE_TYPE;
-pub use numbers::NO_SUCH_PIN;
 pub use numbers::SHORT_BUFFER;
 pub use numbers::SIZE;
 pub use sizes::card_sized;

@@ -21,11 +21,11 @@ pub const EMPTY_TEXT: u32 = 5;
 // A length or size is outside its range.
 pub const SIZE: u32 = 6;
 
-// A character is not a digit, or not hexadecimal, where one is asked.
+// A character is not a digit, hexadecimal or a password's, where one is asked.
 pub const CHARACTER: u32 = 7;
 
-// A PIN block comes from no permitted PIN.
-pub const NO_SUCH_PIN: u32 = 8;
+// A block comes from no permitted PIN, password or VIP number.
+pub const BAD_BLOCK: u32 = 8;
 
 // The two halves of a derivation key agree without the low bit of each byte.
 pub const EQUAL_HALVES: u32 = 9;

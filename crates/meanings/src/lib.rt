@@ -60,8 +60,8 @@ message type does not start with 01, 02, 04 or 05
 a listed field has the wrong length or characters
 MAC asked over a text that is empty after cleaning
 a length or size is outside its range
-a character is not a digit, or not hexadecimal, where one is asked
-a PIN block comes from no permitted PIN
+a character is not a digit, hexadecimal or a password's, where one is asked
+a block comes from no permitted PIN, password or VIP number
 the two halves of a derivation key agree without the low bit of each byte
 host counter is 0 or has more than ten one bits
 terminal state does not hang together

@@ -1,39 +1,38 @@
 -- What callers cite: a block is read exactly when some permitted PIN makes it, and gives that PIN; for every card number and key.
-use borrow.Author.Tests.{eq-eqb}
-use mathlib.Core.Path.{_≡_, refl, sym, ap, _∙_}
+use borrow.Author.Tests.{eqb-true, eq-eqb}
+use mathlib.Core.Path.{_≡_, refl, ap, _∙_}
 use mathlib.Core.Bool.{true}
 use mathlib.Core.List.{List, [], _∷_, _++_}
 use Prim.Native.Nat.{ℕ, _^_, _<_, _≤_}
 use lib.Bits.{bitXor, xor-lt}
-use lib.Dec.{lit<}
+use lib.Dec.{eqb, lit<}
 use lib.ListN.{length}
 use Rattle.lent.specs.CardNumbers.{cardSize}
-use Rattle.lent.specs.Choice.{all}
+use Rattle.lent.specs.Choice.{both, all}
 use Rattle.lent.specs.Characters.{digit}
+use Rattle.lent.specs.ReadsBack.{Block, ReadsBack}
 use Rattle.lent.specs.Result.{Result, done, andThen}
-use Rattle.lent.specs.Words.{word, wordBytes}
+use Rattle.lent.specs.Words.{toBase, word, wordBytes}
 use Rattle.lent.proofs.Bases.{to-length, to-from, to-bytes, from-lt, word-back}
 use Rattle.lent.proofs.Laws.{both-true}
 use Rattle.lent.proofs.Lists.{elements-below}
-use Rattle.lent.proofs.Results.{same-done}
+use Rattle.lent.proofs.ReadsBack.{reads-back}
 use Rattle.cipher.proofs.Xor.{xor-cancel}
 use Rattle.keyed.specs.Keyed.{keySize, changedBlock, encryptedUnder, decryptedUnder, decryptBlock}
 use Rattle.keyed.proofs.Laws.{Inverse, decrypt-undoes-encrypt}
 use Rattle.pinblock.specs.CardNumber.{cardPart, pinBlockWithCard}
 use Rattle.pinblock.specs.Entries.{make, makeWithCard, read, readWithCard, underKey, encrypt, encryptWithCard, decrypt, decryptWithCard}
 use Rattle.pinblock.specs.Pin.{pinSize, permitted, pinBlock}
-use Rattle.pinblock.specs.Reading.{pinOf}
-use Rattle.pinblock.specs.ReadsBack.{Block, Makes, ReadsBack}
+use Rattle.pinblock.specs.Reading.{candidate, pinIfMade, pinOf}
 use Rattle.pinblock.proofs.CardNumbers.{card-part-lt, last-digit}
-use Rattle.pinblock.proofs.Pins.{pin-block-lt}
-use Rattle.pinblock.proofs.Readings.{pin-read, pin-made, pin-refused}
+use Rattle.pinblock.proofs.Pins.{pin-block-lt, pin-candidate}
 
 -- the bytes of a word are a block
-block-of : (x : ℕ) → Block (wordBytes x)
+block-of : (x : ℕ) → Block 8 (wordBytes x)
 block-of x = record { size = to-length 256 8 x; bytes = to-bytes 8 x }
 
 -- a block is the bytes of its word
-module _ {block : List ℕ} (b : Block block) where
+module _ {block : List ℕ} (b : Block 8 block) where
   word-lt : word block < 2 ^ 64
   word-lt = from-lt 256 8 block (elements-below 256 block (lit< tt) (b .bytes))
 
@@ -44,28 +43,34 @@ module _ {block : List ℕ} (b : Block block) where
 record Changes (forth back : ℕ → ℕ) (make read : List ℕ → Result (List ℕ)) : Type 0 where
   inverse : Inverse forth back
   maker : (pin : List ℕ) → permitted pin ≡ true → make pin ≡ done (wordBytes (forth (pinBlock pin)))
-  reader : (block : List ℕ) → Block block → read block ≡ pinOf (back (word block))
+  reader : (block : List ℕ) → Block 8 block → read block ≡ pinOf (back (word block))
 
 module _ {forth back : ℕ → ℕ} {make read : List ℕ → Result (List ℕ)} (c : Changes forth back make read) where
-  read-made : (pin block : List ℕ) → Makes permitted make pin block → read block ≡ done pin
-  read-made pin block m =
+  -- a PIN's block comes back from its bytes
+  block-undone : (pin : List ℕ) → permitted pin ≡ true → back (word (wordBytes (forth (pinBlock pin)))) ≡ pinBlock pin
+  block-undone pin h =
       let x = pinBlock pin in
-      let lt = pin-block-lt pin (m .allowed) in
-      let same : block ≡ wordBytes (forth x) = same-done (sym (m .made) ∙ c .maker pin (m .allowed)) in
-      rw (same, c .reader _ (block-of (forth x)), word-back (forth x) (c .inverse .forth-lt x lt), c .inverse .back-forth x lt) (pin-read pin (m .allowed))
+      let lt = pin-block-lt pin h in
+      ap back (word-back (forth x) (c .inverse .forth-lt x lt)) ∙ c .inverse .back-forth x lt
 
-  makes : (pin block : List ℕ) → Block block → permitted pin ≡ true → pinBlock pin ≡ back (word block) → Makes permitted make pin block
-  makes pin block b h e = record { allowed = h; made = c .maker pin h ∙ rw (e, c .inverse .forth-back (word block) (word-lt b), block-back b) }
-
-  reads-back : ReadsBack permitted make read
-  reads-back =
-      record {
-        makes = λ pin h. (wordBytes (forth (pinBlock pin)), block-of (forth (pinBlock pin)), record { allowed = h; made = c .maker pin h });
-        one = λ pin pin′ block m m′. same-done (sym (read-made pin block m) ∙ read-made pin′ block m′);
-        back = read-made;
-        only = λ pin block b e. let h = pin-made pin (back (word block)) (sym (c .reader block b) ∙ e) in makes pin block b (h .0) (h .1);
-        other = λ block b none. c .reader block b ∙ pin-refused (back (word block)) (λ pin h e. none pin (makes pin block b h e));
-      }
+  -- what stands in a block is read if it is permitted and its block, changed, is this one
+  changed-reads-back : ReadsBack 8 permitted make read
+  unfolding pinOf pinIfMade
+  changed-reads-back =
+      reads-back (record {
+        blockOf = λ pin. wordBytes (forth (pinBlock pin));
+        stands = λ block. candidate (toBase 16 16 (back (word block)));
+        test = λ pin block. both (permitted pin) (eqb (pinBlock pin) (back (word block)));
+        is-block = λ pin h. block-of (forth (pinBlock pin));
+        maker = c .maker;
+        reader = c .reader;
+        stands-back = λ pin h. rw (block-undone pin h) (pin-candidate pin h);
+        passes = λ pin h. rw (h, block-undone pin h) (eq-eqb (pinBlock pin) (pinBlock pin) refl);
+        only = λ pin block b t.
+            let p = both-true (permitted pin) _ t in
+            let e : pinBlock pin ≡ back (word block) = eqb-true _ _ (p .1) in
+            (p .0, rw (e, c .inverse .forth-back (word block) (word-lt b)) (block-back b));
+      })
 
 -- ---- clear blocks
 
@@ -79,8 +84,8 @@ clear =
     }
 
 -- without a card number
-pub read-back : ReadsBack permitted make read
-read-back = reads-back clear
+pub read-back : ReadsBack 8 permitted make read
+read-back = changed-reads-back clear
 
 module _ (card : List ℕ) (h : cardSize card ≡ true) (d : all digit card ≡ true) where
   with-card : Changes (λ x. bitXor x (cardPart card)) (λ x. bitXor x (cardPart card)) (λ pin. makeWithCard pin card) (λ block. readWithCard block card)
@@ -95,8 +100,8 @@ module _ (card : List ℕ) (h : cardSize card ≡ true) (d : all digit card ≡ 
       }
 
   -- with a card number
-  pub read-back-with-card : ReadsBack permitted (λ pin. makeWithCard pin card) (λ block. readWithCard block card)
-  read-back-with-card = reads-back with-card
+  pub read-back-with-card : ReadsBack 8 permitted (λ pin. makeWithCard pin card) (λ block. readWithCard block card)
+  read-back-with-card = changed-reads-back with-card
 
 -- a card number's last digit has no effect
 pub last-digit-free : (pin before : List ℕ) (x y : ℕ) → 12 ≤ length before
@@ -133,12 +138,12 @@ module _ (key : List ℕ) (h : keySize key ≡ true) where
       }
 
   -- without a card number
-  pub decrypt-back : ReadsBack permitted (encrypt key) (decrypt key)
+  pub decrypt-back : ReadsBack 8 permitted (encrypt key) (decrypt key)
   unfolding encrypt decrypt
-  decrypt-back = reads-back (under-key clear)
+  decrypt-back = changed-reads-back (under-key clear)
 
   -- with a card number
   pub decrypt-back-with-card : (card : List ℕ) → cardSize card ≡ true → all digit card ≡ true
-      → ReadsBack permitted (λ pin. encryptWithCard key pin card) (λ block. decryptWithCard key block card)
+      → ReadsBack 8 permitted (λ pin. encryptWithCard key pin card) (λ block. decryptWithCard key block card)
   unfolding encryptWithCard decryptWithCard
-  decrypt-back-with-card card k d = reads-back (under-key (with-card card k d))
+  decrypt-back-with-card card k d = changed-reads-back (under-key (with-card card k d))

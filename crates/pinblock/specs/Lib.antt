@@ -2,4 +2,3 @@ pub mod Pin
 pub mod CardNumber
 pub mod Reading
 pub mod Entries
-pub mod ReadsBack

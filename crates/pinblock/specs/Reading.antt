@@ -5,7 +5,7 @@ use lib.Dec.{eqb}
 use lib.ListN.{getD, take, drop}
 use Rattle.lent.specs.Characters.{digitOf}
 use Rattle.lent.specs.Choice.{both}
-use Rattle.lent.specs.Refusals.{noSuchPin}
+use Rattle.lent.specs.Refusals.{badBlock}
 use Rattle.lent.specs.Result.{Result, done, require}
 use Rattle.lent.specs.Words.{toBase}
 use Rattle.pinblock.specs.Pin.{permitted, pinBlock}
@@ -16,7 +16,7 @@ candidate halfBytes = map digitOf (take (getD halfBytes 1 0) (drop 2 halfBytes))
 
 -- a PIN, if it is permitted and its block is this one
 unfoldable pub pinIfMade : List ℕ → ℕ → Result (List ℕ)
-pinIfMade pin block = require (both (permitted pin) (eqb (pinBlock pin) block)) noSuchPin (done pin)
+pinIfMade pin block = require (both (permitted pin) (eqb (pinBlock pin) block)) badBlock (done pin)
 
 -- the PIN of a block
 unfoldable pub pinOf : ℕ → Result (List ℕ)

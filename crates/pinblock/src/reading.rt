@@ -32,13 +32,13 @@ fn pin_if_made(pin: &[u8], block: u64, out: &mut [u8]) -> lent::Answer
     ensures { λ r. ⌜ Written (pinIfMade (now (pin .entry)) block) (now (out .entry)) (r .number) (r .length) (now (out .exit)) ⌝ }
 {
     if !pin_sized(pin) {
-        return lent::refused(lent::NO_SUCH_PIN);
+        return lent::refused(lent::BAD_BLOCK);
     }
     if !lent::all_digits(pin) {
-        return lent::refused(lent::NO_SUCH_PIN);
+        return lent::refused(lent::BAD_BLOCK);
     }
     if pin_block(pin) != block {
-        return lent::refused(lent::NO_SUCH_PIN);
+        return lent::refused(lent::BAD_BLOCK);
     }
     lent::lend(pin, out)
 }
@@ -50,7 +50,7 @@ fn read_word(block: u64, out: &mut [u8]) -> lent::Answer
 {
     let count = half_byte(block, 1) as usize;
     if count > 12 {
-        return lent::refused(lent::NO_SUCH_PIN);
+        return lent::refused(lent::BAD_BLOCK);
     }
     let text = text_of(block, count);
     pin_if_made(&text[..count], block, out)

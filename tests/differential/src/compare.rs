@@ -123,7 +123,7 @@ pub fn room_by_room(random: &mut Random) -> Result<Vec<u8>, String> {
 
 /// One call of the library, its answer and every byte of lent memory compared with what the second implementation answers
 /// if the room is unlimited; gives the number.
-fn compare_call<V: Value>(
+pub fn compare_call<V: Value>(
     random: &mut Random,
     entry: &Entry<V>,
     input: &Input,

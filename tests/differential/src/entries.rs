@@ -6,8 +6,8 @@ use chizuregwo::lent::{self, WrittenText};
 use chizuregwo::Error;
 use second::cleaning::{self, Counted};
 use second::entries::{decrypt, encrypt, terminal_load};
-use second::numbers::meaning;
-use second::{card, dukpt, key_entry, mac, message as messages, pin};
+use second::numbers::{meaning, Answer};
+use second::{card, dukpt, key_entry, mac, message as messages, password, pin, vip};
 use std::fmt::Debug;
 
 /// Room that no result fills.
@@ -67,7 +67,7 @@ pub struct Entry<V: Value> {
 }
 
 /// An input of parts alone.
-fn parts(parts: Vec<Vec<u8>>) -> Input {
+pub fn parts(parts: Vec<Vec<u8>>) -> Input {
     Input { parts, number: 0 }
 }
 
@@ -136,38 +136,44 @@ fn clear_block(random: &mut Random, card: Option<&[u8]>) -> [u8; 8] {
         return random.array();
     };
     let mut block: [u8; 8] = made.try_into().expect("a block has 8 bytes");
-    if random.once_in(3) {
-        let place = random.below(16);
-        let half_byte = random.between(1, 15) as u8;
-        block[place / 2] ^= half_byte << (4 * (1 - place % 2));
-    }
+    damage(random, &mut block);
     block
 }
 
-/// A block of 8 bytes; once in sixteen of another size.
-fn resized(random: &mut Random, block: [u8; 8]) -> Vec<u8> {
+/// Changes one half-byte of a block, once in three.
+fn damage(random: &mut Random, block: &mut [u8]) {
+    if random.once_in(3) {
+        let place = random.below(2 * block.len());
+        let half_byte = random.between(1, 15) as u8;
+        block[place / 2] ^= half_byte << (4 * (1 - place % 2));
+    }
+}
+
+/// A block; once in sixteen of another size.
+fn resized(random: &mut Random, block: &[u8]) -> Vec<u8> {
     let mut block = block.to_vec();
     if random.once_in(16) {
-        block.resize(random.below(18), 0);
+        let size = random.below(2 * block.len() + 2);
+        block.resize(size, random.one_of(&[0, 0xFF]));
     }
     block
 }
 
 fn read_input(random: &mut Random) -> Input {
     let block = clear_block(random, None);
-    parts(vec![resized(random, block)])
+    parts(vec![resized(random, &block)])
 }
 
 fn read_with_card_input(random: &mut Random) -> Input {
     let card = card_number(random);
     let block = clear_block(random, Some(&card));
-    parts(vec![resized(random, block), card])
+    parts(vec![resized(random, &block), card])
 }
 
 /// A clear block encrypted under a key, if that has a key's size.
 fn encrypted(random: &mut Random, key: &[u8], block: [u8; 8]) -> Vec<u8> {
     let block = encrypt(key, &block).map_or(block, |bytes| bytes.try_into().expect("8 bytes"));
-    resized(random, block)
+    resized(random, &block)
 }
 
 fn decrypt_input(random: &mut Random) -> Input {
@@ -181,6 +187,31 @@ fn decrypt_with_card_input(random: &mut Random) -> Input {
     let block = clear_block(random, Some(&card));
     let block = encrypted(random, &key, block);
     parts(vec![key, block, card])
+}
+
+/// A password, mostly of 6 to 20 characters from 21 to 7E hex.
+fn password_text(random: &mut Random) -> Vec<u8> {
+    let permitted: Vec<u8> = (0x21..=0x7E).collect();
+    random.text(&permitted, 6, 20, b" \x7F\x1F\0\x80\xFF")
+}
+
+fn vip_digits(random: &mut Random) -> Vec<u8> {
+    random.digits(11, 19)
+}
+
+/// The block of a permitted text; a third of these damaged, and once in sixteen of another size.
+fn block_input(
+    random: &mut Random,
+    text: fn(&mut Random) -> Vec<u8>,
+    make: fn(&[u8]) -> Answer,
+) -> Input {
+    let mut block = loop {
+        if let Ok(block) = make(&text(random)) {
+            break block;
+        }
+    };
+    damage(random, &mut block);
+    parts(vec![resized(random, &block)])
 }
 
 /// A card sequence: 0 to 99, and now and then above.
@@ -293,9 +324,27 @@ pub fn meaning_of(number: u32) -> Input {
     }
 }
 
+/// The password of a block.
+pub const PASSWORD_READ: Entry<Vec<u8>> = Entry {
+    name: "password_read",
+    share: 20,
+    input: |random| block_input(random, password_text, password::make),
+    library: |i, out| lent::password_read(&i.parts[0], out),
+    second: |i| password::read(&i.parts[0], ENOUGH),
+};
+
+/// The VIP number of a block.
+pub const VIP_READ: Entry<Vec<u8>> = Entry {
+    name: "vip_read",
+    share: 20,
+    input: |random| block_input(random, vip_digits, vip::make),
+    library: |i, out| lent::vip_read(&i.parts[0], out),
+    second: |i| vip::read(&i.parts[0], ENOUGH),
+};
+
 /// Every entry that writes one buffer, but for those that clean a text. The shares make a thousand with those and the
 /// terminal's next key.
-pub const ENTRIES: [Entry<Vec<u8>>; 21] = [
+pub const ENTRIES: [Entry<Vec<u8>>; 25] = [
     MEANING,
     Entry {
         name: "encrypt",
@@ -313,35 +362,35 @@ pub const ENTRIES: [Entry<Vec<u8>>; 21] = [
     },
     Entry {
         name: "key_entry",
-        share: 60,
+        share: 50,
         input: key_entry_input,
         library: |i, out| lent::key_entry(&i.parts[0], wanted(i), out),
         second: |i| key_entry::key_entry(&i.parts[0], wanted(i), ENOUGH),
     },
     Entry {
         name: "pin_make",
-        share: 50,
+        share: 40,
         input: |random| parts(vec![pin_digits(random)]),
         library: |i, out| lent::pin_make(&i.parts[0], out),
         second: |i| pin::make(&i.parts[0]),
     },
     Entry {
         name: "pin_make_with_card",
-        share: 50,
+        share: 40,
         input: |random| parts(vec![pin_digits(random), card_number(random)]),
         library: |i, out| lent::pin_make_with_card(&i.parts[0], &i.parts[1], out),
         second: |i| pin::make_with_card(&i.parts[0], &i.parts[1]),
     },
     Entry {
         name: "pin_read",
-        share: 50,
+        share: 40,
         input: read_input,
         library: |i, out| lent::pin_read(&i.parts[0], out),
         second: |i| pin::read(&i.parts[0], ENOUGH),
     },
     Entry {
         name: "pin_read_with_card",
-        share: 50,
+        share: 40,
         input: read_with_card_input,
         library: |i, out| lent::pin_read_with_card(&i.parts[0], &i.parts[1], out),
         second: |i| pin::read_with_card(&i.parts[0], &i.parts[1], ENOUGH),
@@ -374,6 +423,22 @@ pub const ENTRIES: [Entry<Vec<u8>>; 21] = [
         library: |i, out| lent::pin_decrypt_with_card(&i.parts[0], &i.parts[1], &i.parts[2], out),
         second: |i| pin::decrypt_with_card(&i.parts[0], &i.parts[1], &i.parts[2], ENOUGH),
     },
+    Entry {
+        name: "password_make",
+        share: 20,
+        input: |random| parts(vec![password_text(random)]),
+        library: |i, out| lent::password_make(&i.parts[0], out),
+        second: |i| password::make(&i.parts[0]),
+    },
+    PASSWORD_READ,
+    Entry {
+        name: "vip_make",
+        share: 20,
+        input: |random| parts(vec![vip_digits(random)]),
+        library: |i, out| lent::vip_make(&i.parts[0], out),
+        second: |i| vip::make(&i.parts[0]),
+    },
+    VIP_READ,
     Entry {
         name: "derivation_data",
         share: 25,
@@ -449,14 +514,14 @@ pub const ENTRIES: [Entry<Vec<u8>>; 21] = [
 pub const TEXT_ENTRIES: [Entry<Counted>; 4] = [
     Entry {
         name: "clean",
-        share: 90,
+        share: 80,
         input: |random| parts(vec![text(random, 200)]),
         library: |i, out| lent::clean(&i.parts[0], out),
         second: |i| cleaning::clean(&i.parts[0], ENOUGH),
     },
     Entry {
         name: "message_text",
-        share: 120,
+        share: 100,
         input: |random| parts(vec![message(random)]),
         library: |i, out| lent::message_text(&i.parts[0], out),
         second: |i| messages::message_text(&i.parts[0], ENOUGH),

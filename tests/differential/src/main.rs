@@ -1,9 +1,10 @@
 //! differential [COUNT [KEYS [SEED]]]: the library's entries against the second implementation.
 //!
 //! COUNT seeded inputs (200,000 if not given) over every entry, whole and damaged, long and short, with buffers of any
-//! room; then the meanings with every room; then records damaged byte by byte; then one terminal drained of KEYS keys
-//! (all 1,048,575 if not given). Prints a line for each kind and how often each number was answered. Ends at the first
-//! difference with its input, status 1.
+//! room; then the meanings with every room; then password and VIP blocks with lengths of every kind, and with each byte
+//! through all 256 values; then records damaged byte by byte; then one terminal drained of KEYS keys (all 1,048,575 if not
+//! given). Prints a line for each kind and how often each number was answered. Ends at the first difference with its
+//! input, status 1.
 //!
 //! Each entry must have answered every refusal that chizuregwo.h lists with it, and no other, and every entry of the
 //! header must have been called, but for czg_version, which answers no refusal. Of the entries that answer a
@@ -11,6 +12,7 @@
 
 #![forbid(unsafe_code)]
 
+mod blocks;
 mod compare;
 mod entries;
 mod header;
@@ -18,6 +20,7 @@ mod messages;
 mod random;
 mod terminals;
 
+use blocks::{PASSWORD, VIP};
 use entries::{Entry, Value, ENTRIES, TEXT_ENTRIES};
 use header::Listed;
 use random::Random;
@@ -27,6 +30,20 @@ use std::time::Instant;
 
 /// Share of the terminal's next key of every thousand inputs.
 const NEXT_KEY_SHARE: usize = 40;
+
+/// The shares of some entries together.
+const fn share_of<V: Value>(entries: &[Entry<V>]) -> usize {
+    let (mut sum, mut i) = (0, 0);
+    while i < entries.len() {
+        sum += entries[i].share;
+        i += 1;
+    }
+    sum
+}
+
+// The shares make a thousand.
+const _: () = assert!(share_of(&ENTRIES) + share_of(&TEXT_ENTRIES) + NEXT_KEY_SHARE == 1000);
+
 /// One key in so many of the drain is compared with the second implementation's.
 const SAMPLE: usize = 1009;
 
@@ -154,7 +171,8 @@ fn shares<V: Value>(
     Ok(())
 }
 
-/// Every entry on seeded inputs, then the meanings room by room and records damaged byte by byte.
+/// Every entry on seeded inputs, then the meanings room by room, the blocks of passwords and VIP numbers, and records damaged
+/// byte by byte.
 fn inputs(random: &mut Random, count: usize, all: &mut All) -> Result<(), String> {
     shares(&ENTRIES, random, count, all)?;
     shares(&TEXT_ENTRIES, random, count, all)?;
@@ -164,6 +182,12 @@ fn inputs(random: &mut Random, count: usize, all: &mut All) -> Result<(), String
     })?;
     let meanings = compare::room_by_room(random)?;
     Seen::of(meanings).print("meanings room by room", "meaning", all);
+    for (texts, kind) in [("passwords", &PASSWORD), ("VIP numbers", &VIP)] {
+        let lengths = Seen::of(kind.length_by_length(random)?);
+        lengths.print(&format!("{texts} by length"), kind.entry.name, all);
+        let bytes = Seen::of(kind.byte_by_byte(random)?);
+        bytes.print(&format!("{texts} byte by byte"), kind.entry.name, all);
+    }
     let mut records = Vec::new();
     for _ in 0..1 + count / 20_000 {
         records.extend(terminals::byte_by_byte(random)?);

@@ -57,19 +57,25 @@ impl Random {
         (0..count).map(|_| self.one_of(from)).collect()
     }
 
-    /// From `least` to `most` digits; once in sixteen fewer or more, and once in sixteen with another character.
-    pub fn digits(&mut self, least: usize, most: usize) -> Vec<u8> {
+    /// From `least` to `most` characters out of some; once in sixteen fewer or more, and once in sixteen with another
+    /// character.
+    pub fn text(&mut self, from: &[u8], least: usize, most: usize, others: &[u8]) -> Vec<u8> {
         let length = match self.below(32) {
             0 => self.below(least),
             1 => self.between(most + 1, most + 12),
             2..=5 => self.one_of(&[least, most]),
             _ => self.between(least, most),
         };
-        let mut digits = self.characters(b"0123456789", length);
+        let mut text = self.characters(from, length);
         if self.once_in(16) {
-            self.spoil(&mut digits, b"/:Aa \0\xB0\xFF");
+            self.spoil(&mut text, others);
         }
-        digits
+        text
+    }
+
+    /// Digits, as [`Random::text`].
+    pub fn digits(&mut self, least: usize, most: usize) -> Vec<u8> {
+        self.text(b"0123456789", least, most, b"/:Aa \0\xB0\xFF")
     }
 
     /// Puts one of some characters, or any byte, in one place.

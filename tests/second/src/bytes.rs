@@ -25,10 +25,16 @@ pub fn right(key: &[u8; 16]) -> [u8; 8] {
     array(&key[8..])
 }
 
-/// Sixteen half-bytes as eight bytes, the first half-byte on the left.
-pub fn pack(half_bytes: &[u8]) -> [u8; 8] {
-    assert_eq!(half_bytes.len(), 16);
+/// Half-bytes as bytes, two a byte, the first half-byte on the left.
+pub fn pack<const N: usize>(half_bytes: &[u8]) -> [u8; N] {
+    assert_eq!(half_bytes.len(), 2 * N);
     std::array::from_fn(|i| half_bytes[2 * i] * 16 + half_bytes[2 * i + 1])
+}
+
+/// Half-byte of a block, the leftmost being 0.
+pub fn half_byte(block: &[u8], place: usize) -> u8 {
+    let byte = block[place / 2];
+    [byte / 16, byte % 16][place % 2]
 }
 
 /// Whether every byte is a text digit.

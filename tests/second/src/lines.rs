@@ -147,7 +147,7 @@ impl<'a> Inputs<'a> {
         hexadecimal(input).ok_or(format!("`{shown}` is not hexadecimal bytes"))
     }
 
-    /// An input of characters: a PIN or a card number.
+    /// An input of characters: a PIN, a card number, a password or a VIP number.
     pub fn characters(&mut self) -> Result<Vec<u8>, String> {
         as_such(self.next()?)
     }
@@ -197,7 +197,8 @@ pub fn bytes_value(bytes: &[u8]) -> String {
     }
 }
 
-/// A PIN or a cleaned text as it is written: as such, `-` for none.
+/// A PIN, a password, a VIP number or a text as it is written: as such, `-` for
+/// none.
 pub fn text_value(text: &[u8]) -> String {
     assert!(text.is_ascii());
     if text.is_empty() {

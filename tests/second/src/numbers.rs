@@ -15,10 +15,10 @@ pub const FIELD_FORM: u8 = 4;
 pub const EMPTY_TEXT: u8 = 5;
 /// A length or size is outside its range.
 pub const SIZE: u8 = 6;
-/// A character is not a digit, or not hexadecimal, where one is asked.
+/// A character is not a digit, hexadecimal or a password's, where one is asked.
 pub const CHARACTER: u8 = 7;
-/// A PIN block comes from no permitted PIN.
-pub const NO_SUCH_PIN: u8 = 8;
+/// A block comes from no permitted PIN, password or VIP number.
+pub const BAD_BLOCK: u8 = 8;
 /// The two halves of a derivation key agree without the low bit of each byte.
 pub const EQUAL_HALVES: u8 = 9;
 /// Host counter is 0 or has more than ten one bits.
@@ -39,8 +39,8 @@ const MEANINGS: [&str; 14] = [
     "a listed field has the wrong length or characters",
     "MAC asked over a text that is empty after cleaning",
     "a length or size is outside its range",
-    "a character is not a digit, or not hexadecimal, where one is asked",
-    "a PIN block comes from no permitted PIN",
+    "a character is not a digit, hexadecimal or a password's, where one is asked",
+    "a block comes from no permitted PIN, password or VIP number",
     "the two halves of a derivation key agree without the low bit of each byte",
     "host counter is 0 or has more than ten one bits",
     "terminal state does not hang together",

@@ -4,9 +4,9 @@
 //! A block is read by search: it is read exactly when some permitted PIN makes
 //! it, and then as that PIN.
 
-use crate::bytes::{all_digits, array, digit_values, pack, xor};
+use crate::bytes::{all_digits, array, digit_values, half_byte, pack, xor};
 use crate::des;
-use crate::numbers::{lend, require, Answer, CHARACTER, NO_SUCH_PIN, SIZE};
+use crate::numbers::{lend, require, Answer, BAD_BLOCK, CHARACTER, SIZE};
 
 /// A card number, or none.
 type Card<'a> = Option<&'a [u8]>;
@@ -49,12 +49,6 @@ fn block_of(pin: &[u8], card: Card) -> [u8; 8] {
     }
 }
 
-/// Half-byte of a block, the leftmost being 0.
-fn half_byte(block: [u8; 8], place: usize) -> u8 {
-    let byte = block[place / 2];
-    [byte / 16, byte % 16][place % 2]
-}
-
 /// A PIN of so many digits that agrees with the block where its digits stand:
 /// each digit is found by trying all ten.
 fn candidate(block: [u8; 8], card: Card, length: usize) -> Option<Vec<u8>> {
@@ -62,7 +56,7 @@ fn candidate(block: [u8; 8], card: Card, length: usize) -> Option<Vec<u8>> {
     for i in 0..length {
         let agreeing = (b'0'..=b'9').find(|digit| {
             pin[i] = *digit;
-            half_byte(block_of(&pin, card), 2 + i) == half_byte(block, 2 + i)
+            half_byte(&block_of(&pin, card), 2 + i) == half_byte(&block, 2 + i)
         });
         pin[i] = agreeing?;
     }
@@ -89,7 +83,7 @@ fn read_any(block: &[u8], card: Card, room: usize) -> Answer {
     require(block.len() == 8, SIZE)?;
     require(card_size(card), SIZE)?;
     require(card.is_none_or(all_digits), CHARACTER)?;
-    let pin = pin_of(array(block), card).ok_or(NO_SUCH_PIN)?;
+    let pin = pin_of(array(block), card).ok_or(BAD_BLOCK)?;
     lend(pin, room)
 }
 

@@ -5,7 +5,8 @@ use crate::dukpt::{to_bytes, NextKey};
 use crate::lines::{answer_line, bytes_value, requests, self_test_line, text_value};
 use crate::lines::{Inputs, Request, Rooms};
 use crate::numbers::{lend, Answer};
-use crate::{card, cleaning, dukpt, entries, key_entry, mac, message, numbers, pin, self_test};
+use crate::{card, cleaning, dukpt, entries, key_entry, mac, message, numbers};
+use crate::{password, pin, self_test, vip};
 use std::io::{BufRead, Write};
 
 /// Reads the inputs of a request and computes its answer's line, with the rooms
@@ -18,8 +19,8 @@ fn bytes(answer: Answer, rooms: Rooms) -> Result<String, String> {
     Ok(answer_line(&lent.map(|value| vec![bytes_value(&value)])))
 }
 
-/// The line of the one value that is a PIN or a text, if the room is enough for
-/// it.
+/// The line of the one value that is a PIN, a password, a VIP number or a text,
+/// if the room is enough for it.
 fn text(answer: Answer, rooms: Rooms) -> Result<String, String> {
     let lent = answer.and_then(|value| lend(value, rooms.result));
     Ok(answer_line(&lent.map(|value| vec![text_value(&value)])))
@@ -55,7 +56,7 @@ fn next_key(answer: Result<NextKey, u8>) -> Result<String, String> {
 
 /// Every request, by its name.
 #[rustfmt::skip]
-const REQUESTS: [(&str, Compute); 27] = [
+const REQUESTS: [(&str, Compute); 31] = [
     ("meaning", |i, r| text(numbers::meaning(i.number()?), r)),
 
     ("encrypt", |i, r| bytes(entries::encrypt(&i.bytes()?, &i.bytes()?), r)),
@@ -82,6 +83,11 @@ const REQUESTS: [(&str, Compute); 27] = [
     ("pin-decrypt-with-card", |i, r| {
         text(pin::decrypt_with_card(&i.bytes()?, &i.bytes()?, &i.characters()?, r.result), r)
     }),
+
+    ("password-make", |i, r| bytes(password::make(&i.characters()?), r)),
+    ("password-read", |i, r| text(password::read(&i.bytes()?, r.result), r)),
+    ("vip-make", |i, r| bytes(vip::make(&i.characters()?), r)),
+    ("vip-read", |i, r| text(vip::read(&i.bytes()?, r.result), r)),
 
     ("derivation-data", |i, r| bytes(card::derivation_data(&i.characters()?, i.number()?), r)),
     ("card-key", |i, r| bytes(card::card_key(&i.bytes()?, &i.characters()?, i.number()?), r)),

@@ -76,6 +76,25 @@ pin-decrypt/none 133457799BBCDFF1 0000000000000000 = refused 8
 pin-decrypt/done 0123456789ABCDEF 286344C32894AFB6 = done 1234
 pin-decrypt-with-card/card 133457799BBCDFF1 0000000000000000 - = refused 6
 pin-decrypt-with-card/done 0123456789ABCDEF 864C0D7C2D6C8B94 4219876543210987 = done 1234
+password-make/003 Hello!123 = done 303948656C6C6F21313233FFFFFFFFFFFFFFFFFFFFFFFFFF
+password-make/odd !\"#$%&' = done 303721222324252627FFFFFFFFFFFFFFFFFFFFFFFFFFFFFF
+password-make/hex hex:6865783A3132 = done 30366865783A3132FFFFFFFFFFFFFFFFFFFFFFFFFFFFFFFF
+password-make/none - = refused 6
+password-make/space hex:616263202020 = refused 7
+password-make@23/room Hello!123 = refused 13
+password-read@9/003 303948656C6C6F21313233FFFFFFFFFFFFFFFFFFFFFFFFFF = done Hello!123
+password-read/hex 30366865783A3132FFFFFFFFFFFFFFFFFFFFFFFFFFFFFFFF = done hex:12
+password-read/printed 303948656C6C6F21313233FFFFFFFFFFFFFFFFFFFFFFFFFFFF = refused 6
+password-read/length 313048656C6C6F21313233FFFFFFFFFFFFFFFFFFFFFFFFFF = refused 8
+password-read@8/room 303948656C6C6F21313233FFFFFFFFFFFFFFFFFFFFFFFFFF = refused 13
+vip-make/003 1234567890123456789 = done 191234567890123456789FFFFFFFFFFF
+vip-make/size 123456789x = refused 6
+vip-make/character 1234567890x = refused 7
+vip-make@15/room 12345678901 = refused 13
+vip-read@19/003 191234567890123456789FFFFFFFFFFF = done 1234567890123456789
+vip-read/hexadecimal 131234567890123456789FFFFFFFFFFF = refused 8
+vip-read/none - = refused 6
+vip-read@18/room 191234567890123456789FFFFFFFFFFF = refused 13
 derivation-data/l 6228000100001 1 = done 0622800010000101
 derivation-data/sequence 6228000100001 100 = refused 6
 card-key/001 0123456789ABCDEFFEDCBA9876543210 4219876543210987 0 = done 9249345E0220CEBA0D20D6A2453BF407
@@ -159,6 +178,7 @@ fn bytes_that_are_no_text() {
     assert_eq!(asked(b"clean a\xFF\xC3b\r"), "done AB 3 0");
     assert_eq!(asked(b"clean/\xFF a"), "done A 0 0");
     assert_eq!(asked(b"pin-make 12\xFF4"), "refused 7");
+    assert_eq!(asked(b"password-make 12345\xFF"), "refused 7");
 }
 
 #[test]
@@ -211,6 +231,12 @@ fn wrong_lines() {
         "meaning/x 0 0",
         "meaning/x 4294967296",
         "pin-make/x 12 34",
+        "password-make/x abc def",
+        "password-make/x abcdef ",
+        "password-make/x hex:61626",
+        "password-read/x Hello!123",
+        "vip-make/x",
+        "vip-read/x hex:19",
         "derivation-data/x 6228000100001 4294967296",
         "derivation-data/x 6228000100001 -",
         "session-key/x 014D996FCC8F49157DC8B49E3BCDFD99 65536",

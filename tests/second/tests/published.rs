@@ -1,10 +1,10 @@
-//! Published values: FIPS and NBS, and documents 000, 001, 002 and 004.
+//! Published values: FIPS and NBS, and documents 000 to 004.
 
 mod common;
 
 use common::{hex, sized, DERIVATION, SERIAL, SUBSTITUTION};
 use second::des::{decrypt, encrypt, entries_read, triple_decrypt, triple_encrypt, ENTRIES};
-use second::{card, dukpt, pin};
+use second::{card, dukpt, password, pin, vip};
 use std::collections::BTreeSet;
 
 /// DES both ways: key, block, result.
@@ -101,6 +101,24 @@ fn document_000_pin_blocks() {
     assert_eq!(pin::make(b"123456"), Ok(hex("06123456FFFFFFFF")));
     assert_eq!(made(b"123456789012345678"), Ok(hex("061253DFFEDCBA98")));
     assert_eq!(made(b"1234567890123456"), Ok(hex("0612713176FEDCBA")));
+}
+
+/// 003 prints 25 bytes, one FF too many; 000 has the same password and 24.
+#[test]
+fn documents_000_and_003_password_block() {
+    let printed = hex("30 39 48 65 6C 6C 6F 21 31 32 33 FF FF FF FF FF FF FF FF FF FF FF FF FF FF");
+    let block = &printed[..24];
+    assert_eq!(password::make(b"Hello!123"), Ok(block.to_vec()));
+    assert_eq!(password::read(block, 9), Ok(b"Hello!123".to_vec()));
+    assert_eq!(password::read(&printed, 9), Err(6));
+}
+
+#[test]
+fn document_003_vip_block() {
+    let block = hex("19 12 34 56 78 90 12 34 56 78 9F FF FF FF FF FF");
+    let number = b"1234567890123456789";
+    assert_eq!(vip::make(number), Ok(block.clone()));
+    assert_eq!(vip::read(&block, 19), Ok(number.to_vec()));
 }
 
 /// It prints the key twice, with odd and with even parity: every low bit

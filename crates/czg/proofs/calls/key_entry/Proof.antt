@@ -11,7 +11,7 @@ unfolding answerAt answers
 returns-10 c =
     let s = c .before .before .before .before .before .before .before .before .before in
     let r = c .before .before .before .before .match .rest in
-    let e : s .args .place ≡ 24 = exactly (past (past (past (past (past (past (past (past (past (s .pre .0) (r .0 .0 .0 .0 .0 .0 .0 .0 .1)) (r .0 .0 .0 .0 .0 .0 .0 .1)) (r .0 .0 .0 .0 .0 .0 .1)) (r .0 .0 .0 .0 .0 .1)) (r .0 .0 .0 .0 .1)) (r .0 .0 .0 .1)) (r .0 .0 .1)) (r .0 .1)) (r .1)) (s .pre .1) in
+    let e : s .args .place ≡ 28 = exactly (past (past (past (past (past (past (past (past (past (s .pre .0) (r .0 .0 .0 .0 .0 .0 .0 .0 .1)) (r .0 .0 .0 .0 .0 .0 .0 .1)) (r .0 .0 .0 .0 .0 .0 .1)) (r .0 .0 .0 .0 .0 .1)) (r .0 .0 .0 .0 .1)) (r .0 .0 .0 .1)) (r .0 .0 .1)) (r .0 .1)) (r .1)) (s .pre .1) in
     rw e (c .before .before .czg-meaning .ensures)
 
 pub key-entry-spec : {M : Type 1} → statement M

@@ -8,14 +8,14 @@ use native.Mathlib.Numerals.{add-one}
 use native.Mathlib.Omega.{arith}
 use lib.ListN.{length, take, drop, length-set}
 use lib.Seq.{paste-suc, take-length}
-use Rattle.keyentry.specs.KeyEntry.{keyOf}
-use Rattle.keyentry.proofs.Pairs.{key-at}
-use Rattle.keyentry.proofs.Texts.{key-length}
+use Rattle.keyentry.specs.Hexadecimal.{bytesOf}
+use Rattle.keyentry.proofs.Pairs.{byte-at}
+use Rattle.keyentry.proofs.Texts.{bytes-length}
 use Rattle.keyentry.proofs.decoding.put_bytes.Statement.{statement}
 use Rattle.keyentry.proofs.decoding.put_bytes.Tie as tie
 
 abbrev Inv-loop : tie.InvT-loop
-Inv-loop text out₀ bytes i₀ out i = (out ≡ take i (keyOf text) ++ drop i out₀) × (i ≤ bytes) × (length out ≡ length out₀)
+Inv-loop text out₀ bytes i₀ out i = (out ≡ take i (bytesOf text) ++ drop i out₀) × (i ≤ bytes) × (length out ≡ length out₀)
 
 abbrev μ-loop : tie.MeasureT-loop
 μ-loop text out₀ bytes i₀ out i = bytes - i
@@ -34,10 +34,10 @@ loop-again c =
     let l = c .before .before .loop in
     let s = c .before .before .before .before .before in
     let text = s .args .text .now in
-    let n = key-length text (s .args .size .0) (s .pre .0) in
-    let at = key-at text (l .i) (omega (arith, s .pre)) in (
+    let n = bytes-length text (s .args .size .0) (s .pre .0) in
+    let at = byte-at text (l .i) (omega (arith, s .pre)) in (
       rw (l .inv .0, add-one (l .i), c .byte-of .ensures, ← at)
-          (simp zero-add at (paste-suc (s .args .out .now) 0 (keyOf text) (l .i) 0 (omega (arith, s .pre)) (omega (arith, s .pre)))),
+          (simp zero-add at (paste-suc (s .args .out .now) 0 (bytesOf text) (l .i) 0 (omega (arith, s .pre)) (omega (arith, s .pre)))),
       omega arith,
       simp length-set (l .inv .2),
     )
@@ -46,7 +46,7 @@ returns : tie.Need-returns Inv-loop μ-loop
 returns c =
     let l = c .before .loop in
     let s = c .before .before .before .before in
-    let e : l .i ≡ length (keyOf (s .args .text .now)) = omega (arith, key-length (s .args .text .now) (s .args .size .0) (s .pre .0)) in
+    let e : l .i ≡ length (bytesOf (s .args .text .now)) = omega (arith, bytes-length (s .args .text .now) (s .args .size .0) (s .pre .0)) in
     rw (l .inv .0, e, take-length)
 
 pub put-bytes-spec : {M : Type 1} → statement M

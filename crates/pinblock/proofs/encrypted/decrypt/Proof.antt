@@ -1,8 +1,7 @@
 -- `pinblock::encrypted::decrypt` meets its contract.
 use borrow.Author.Needs.{needs}
-use Rattle.lent.proofs.Results.{answered-done, answered-refused, refused-answer}
+use Rattle.lent.proofs.Results.{answered-done, answered-refused, refused-answer, refuses-then}
 use Rattle.pinblock.specs.Entries.{read, decrypt}
-use Rattle.pinblock.proofs.Readings.{refused-on}
 use Rattle.pinblock.proofs.encrypted.decrypt.Statement.{statement}
 use Rattle.pinblock.proofs.encrypted.decrypt.Tie as tie
 
@@ -10,7 +9,7 @@ returns : tie.Need-returns
 unfolding decrypt
 returns c =
     refused-answer (c .refused .ensures)
-    (refused-on read (answered-refused 8 _ (c .before .before .before .decrypt-block .ensures) (c .before .if1 .taken)))
+    (refuses-then read (answered-refused 8 _ (c .before .before .before .decrypt-block .ensures) (c .before .if1 .taken)))
 
 returns-2 : tie.Need-returns-2
 unfolding decrypt

@@ -4,10 +4,9 @@ use borrow.Author.Tests.{not-true, not-false}
 use mathlib.Core.Path.{_≡_, refl, sym, _∙_}
 use mathlib.Core.Bool.{true}
 use Rattle.lent.specs.Refusals.{size}
-use Rattle.lent.proofs.Results.{answered-done, answered-refused, refused-block}
+use Rattle.lent.proofs.Results.{answered-done, answered-refused, refused-block, refuses-then}
 use Rattle.keyed.specs.Keyed.{keySize, encryptBlock}
 use Rattle.pinblock.specs.Entries.{underKey}
-use Rattle.pinblock.proofs.Readings.{refused-on}
 use Rattle.pinblock.proofs.encrypted.under_key.Statement.{statement}
 use Rattle.pinblock.proofs.encrypted.under_key.Tie as tie
 
@@ -23,7 +22,7 @@ returns-2 : tie.Need-returns-2
 unfolding underKey
 returns-2 c making a =
     refused-block (c .refused-block2 .ensures)
-    (simp (right-size (c .before .before .before)) (refused-on (encryptBlock _) (answered-refused 8 making a (c .before .if2 .taken))))
+    (simp (right-size (c .before .before .before)) (refuses-then (encryptBlock _) (answered-refused 8 making a (c .before .if2 .taken))))
 
 returns-3 : tie.Need-returns-3
 unfolding underKey

@@ -2,7 +2,7 @@
 use borrow.Author.Needs.{needs}
 use mathlib.Core.Path.{refl, sym}
 use lib.Seq.{length-take-le}
-use Rattle.lent.specs.Refusals.{noSuchPin}
+use Rattle.lent.specs.Refusals.{badBlock}
 use Rattle.lent.proofs.Results.{refused-answer}
 use Rattle.pinblock.specs.Reading.{candidate, pinOf}
 use Rattle.pinblock.proofs.Readings.{long-refused}
@@ -11,7 +11,7 @@ use Rattle.pinblock.proofs.reading.read_word.Tie as tie
 
 returns : tie.Need-returns
 returns c =
-    refused-answer (c .refused .ensures) (noSuchPin, refl, long-refused _ (rw (c .before .before .half-byte .ensures .0) at (c .before .if1 .taken)))
+    refused-answer (c .refused .ensures) (badBlock, refl, long-refused _ (rw (c .before .before .half-byte .ensures .0) at (c .before .if1 .taken)))
 
 slice-aggregate-pin-if-made : tie.Need-slice-aggregate-pin-if-made
 slice-aggregate-pin-if-made c = sym (length-take-le _ _ (search needs))
