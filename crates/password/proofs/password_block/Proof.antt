@@ -1,6 +1,9 @@
 -- `password_block` meets its contract.
 use borrow.Author.Needs.{needs}
+use mathlib.Core.Path.{_≡_}
 use native.Mathlib.Omega.{arith}
+use lib.ListN.{length}
+use Rattle.lent.specs.Characters.{twoDigits}
 use Rattle.lent.proofs.Frames.{framed-written}
 use Rattle.password.specs.Password.{passwordBlock}
 use Rattle.password.proofs.password_block.Statement.{statement}
@@ -10,9 +13,10 @@ returns : tie.Need-returns
 unfolding passwordBlock
 returns c =
     let first = c .before .before .before .before in
-    let digits = first .before .before .before in
-    let s = digits .before .before in
-    framed-written 24 0xFF (s .args .password .now) (omega (arith, s .pre)) (rw (digits .two-digits .ensures) at (first .append .ensures)) (c .before .append2 .ensures)
+    let d = first .before .before .before in
+    let s = d .before .before in
+    let said : d .two-digits .result ≡ twoDigits (length (s .args .password .now)) = d .two-digits .ensures in
+    framed-written 24 0xFF (s .args .password .now) (omega (arith, s .pre)) (rw said at (first .append .ensures)) (c .before .append2 .ensures)
 
 pub password-block-spec : {M : Type 1} → statement M
 password-block-spec =
