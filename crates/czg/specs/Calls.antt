@@ -13,7 +13,8 @@ use Rattle.pinblock.specs.Entries as Pin
 use Rattle.password.specs.Password
 use Rattle.vip.specs.Vip
 use Rattle.card.specs.Entries as Card
-use Rattle.host.specs.Entries.{initialKey, hostKey}
+use Rattle.registers.specs.Host.{initialKey, hostKey}
+use Rattle.host.specs.SingleLength.{singleLength}
 use Rattle.recordbytes.specs.Calls.{loadedBytes}
 use Rattle.meanings.specs.Meanings.{meaning}
 
@@ -47,9 +48,9 @@ answers a b c x =
     ∷ Card.sessionKey a (x % 65536)
     ∷ Card.arqc a b
     ∷ Card.arpc a b c
-    ∷ initialKey a b
-    ∷ hostKey a b
-    ∷ loadedBytes a b
+    ∷ initialKey singleLength a b
+    ∷ hostKey singleLength a b
+    ∷ loadedBytes singleLength a b
     ∷ meaning (x % 4294967296)
     ∷ []
 

@@ -1,3 +1,1 @@
-pub mod SerialNumber
-pub mod Derivation
-pub mod Entries
+pub mod SingleLength

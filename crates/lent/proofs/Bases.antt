@@ -2,14 +2,16 @@
 use borrow.Author.Tests.{lt-ltb}
 use mathlib.Core.Path.{_≡_, refl, sym, ap, ap₂, _∙_}
 use mathlib.Core.Bool.{true}
+use mathlib.Core.Logic.{by-cases}
 use mathlib.Core.List.{List}
 use Prim.Native.Nat.{ℕ, zero, suc, _+_, _-_, _*_, _/_, _%_, _^_, _<_, _≤_}
-use native.Mathlib.Nat.{add-zero, add-suc, suc-add, pow-zero, pow-suc, pow-succ', mod-one, div-one, div-div-eq-div-mul, not-suc-le-zero, le-of-suc-le-suc, one-le-pow, add-sub-cancel-left, suc-sub-suc, sub-zero, add-sub-of-le, mod-lt, mod-eq-of-lt}
+use native.Mathlib.Nat.{add-zero, add-suc, suc-add, pow-zero, pow-suc, pow-succ', mod-one, div-one, div-div-eq-div-mul, not-suc-le-zero, le-of-suc-le-suc, one-le-pow, add-sub-cancel-left, suc-sub-suc, sub-zero, add-sub-of-le, mod-lt, mod-eq-of-lt, le-refl}
+use native.Mathlib.Decide.{decLt}
 use native.Mathlib.Omega.{arith}
 use lib.Arith.{digits-div, digits-mod, digits-lt, mod-mul}
 use lib.Dec.{lit<}
-use lib.ListN.{length, getD, drop}
-use lib.Seq.{ext-getD, getD-drop}
+use lib.ListN.{length, getD, take, drop, length-take, List·getD-eq-default}
+use lib.Seq.{ext-getD, getD-drop, getD-take}
 use Rattle.lent.specs.Choice.{all}
 use Rattle.lent.specs.Words.{byte, fromBase, toBase, word, wordBytes}
 
@@ -34,6 +36,14 @@ module _ (b : ℕ) where
   -- so is each after the first k
   pub digits-drop : (k : ℕ) (s : List ℕ) → Digits s → Digits (drop k s)
   digits-drop k s d i = rw (getD-drop k s i 0) (d (k + i))
+
+  -- and each of the first k
+  pub digits-take : (k : ℕ) (s : List ℕ) → Digits s → Digits (take k s)
+  digits-take k s d i =
+      by-cases (decLt i k) (λ h. rw (getD-take k s i 0 h) (d i))
+      (λ h.
+      rw (List·getD-eq-default (take k s) 0 {n = i} (rw length-take (omega arith)))
+      (rw (List·getD-eq-default s 0 {n = length s} (le-refl (length s))) at (d (length s))))
 
   -- n digits are a number below the base to the power n
   pub from-lt : (n : ℕ) (s : List ℕ) → Digits s → fromBase b n s < b ^ n

@@ -10,7 +10,7 @@ use lib.ListN.{length, take, drop, replicate, length-append, length-drop, drop-o
 use lib.Seq.{take-append-seam}
 use Rattle.lent.proofs.Laws.{cases, never}
 use Rattle.lent.specs.Refusals.{Refusal, numberOf, cutShort, fieldOrder, messageType, fieldForm, emptyText, size, character, badBlock, equalHalves, badCounter, badRecord, exhausted, shortBuffer}
-use Rattle.lent.specs.Result.{Result, done, refused, number, require, andThen, bytes, lend, over, Answered, Written}
+use Rattle.lent.specs.Result.{Result, done, refused, number, require, andThen, bytes, lend, over, ofDone, Answered, Written}
 use Rattle.lent.specs.declared.answers.Answer.{Answer}
 use Rattle.lent.specs.declared.answers.Block.{Block}
 use Rattle.lent.specs.declared.answers.DoubleBlock.{DoubleBlock}
@@ -54,6 +54,11 @@ Refuses num answer = (why : Refusal) × (num ≡ numberOf why) × (answer ≡ re
 pub number-refuses : {A : Type 0} (r : Result A) (num : ℕ) → num ≡ number r → (num ≡ 0 → ⊥) → Refuses num r
 number-refuses (done a) num e z = absurd (z e)
 number-refuses (refused why) num e z = (why, e, refl)
+
+-- the number 0 is a value's
+pub number-done : {A : Type 0} (r : Result A) → number r ≡ 0 → (other : A) → r ≡ done (ofDone (λ a. a) other r)
+number-done (done a) e other = refl
+number-done (refused why) e other = absurd (not-zero why e)
 
 -- a refusal stays in what goes on from it
 pub refuses-then : {A B : Type 0} {num : ℕ} {r : Result A} (f : A → Result B) → Refuses num r → Refuses num (andThen r f)

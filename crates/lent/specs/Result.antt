@@ -37,6 +37,11 @@ abbrev pub fixed : ℕ → Result (List ℕ) → List ℕ
 fixed n (done b) = b
 fixed n (refused why) = replicate n 0
 
+-- What f makes of a done value; of a refusal, the other.
+abbrev pub ofDone : {A B : Type 0} → (A → B) → B → Result A → B
+ofDone f other (done a) = f a
+ofDone f other (refused why) = other
+
 -- A done value that is longer than the room lent for it is refused.
 abbrev pub lend : ℕ → Result (List ℕ) → Result (List ℕ)
 lend room (done b) = require (leb (length b) room) shortBuffer (done b)

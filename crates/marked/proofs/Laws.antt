@@ -15,10 +15,9 @@ use Rattle.card.specs.Entries.{derivationData}
 use Rattle.card.specs.Session.{counterBytes}
 use Rattle.card.specs.Turned.{turned}
 use Rattle.registers.specs.Counters.{nextAfter, nextCounter}
-use Rattle.registers.specs.Machine.{spent}
-use Rattle.terminal.specs.Record.{afterKey}
+use Rattle.registers.specs.Machine.{positionAt, positionAfter, spent}
 use Rattle.marked.specs.Cases.{answer, counts, table, computed, expected}
 
 pub marked : computed ≡ expected
-unfolding answer counts table ones onesIn trailingZeros capitalized fromBase toBase capitals kept keptOnly trimmedStart trimmedEnd trimmed closedUp cleaned cleanText stays droppedFrom spacesIn spacesOutOf textMac cleanedMac cardHalfBytes cardPart pinBlockWithCard make makeWithCard read pinHalfBytes pinBlock candidate pinIfMade pinOf cardDigits rightmost derivationWord derivationData counterBytes turned nextAfter nextCounter spent afterKey
+unfolding answer counts table ones onesIn trailingZeros capitalized fromBase toBase capitals kept keptOnly trimmedStart trimmedEnd trimmed closedUp cleaned cleanText stays droppedFrom spacesIn spacesOutOf textMac cleanedMac cardHalfBytes cardPart pinBlockWithCard make makeWithCard read pinHalfBytes pinBlock candidate pinIfMade pinOf cardDigits rightmost derivationWord derivationData counterBytes turned nextAfter nextCounter positionAt positionAfter spent
 marked = refl

@@ -15,8 +15,8 @@ use Rattle.mac.specs.Mac.{textMac}
 use Rattle.pinblock.specs.Entries.{make, makeWithCard, read}
 use Rattle.card.specs.Entries.{derivationData}
 use Rattle.card.specs.Session.{sessionHalves}
-use Rattle.terminal.specs.Record.{afterKey}
-use Rattle.terminal.specs.declared.state.Terminal.{Terminal}
+use Rattle.registers.specs.Machine.{State, noKeys, spent}
+use Rattle.host.specs.SingleLength.{singleLength}
 
 -- ---- what is asked
 
@@ -39,13 +39,13 @@ pub data Input : Type 0 where
   -- a terminal's counter, of which the one that is next after it is asked
   after : ℕ → Input
 
--- a record with that counter next; what else it holds has no effect on the next one
-abbrev pub recordWith : ℕ → Terminal
-recordWith c = record { keys = replicate 21 0; filled = 0; serial = replicate 10 0; counter = c; exhausted = false }
+-- a terminal's state with that counter next; what else it holds has no effect on the next one
+abbrev pub stateWith : ℕ → State ℕ
+stateWith c = record { keys = noKeys singleLength; filled = 0; serial = replicate 10 0; counter = c; exhausted = false }
 
--- the counter of a record in three bytes; an exhausted one answers 12
-abbrev pub counterIn : Terminal → Result (List ℕ)
-counterIn t = pick (t .exhausted) (refused refusals.exhausted) (done (toBase 256 3 (t .counter)))
+-- the counter of a state in three bytes; an exhausted one answers 12
+abbrev pub counterIn : State ℕ → Result (List ℕ)
+counterIn s = pick (s .exhausted) (refused refusals.exhausted) (done (toBase 256 3 (s .counter)))
 
 -- what the definitions answer
 unfoldable pub answer : Input → Result (List ℕ)
@@ -56,7 +56,7 @@ answer (pinAndCard digits card) = makeWithCard digits card
 answer (block bytes) = read bytes
 answer (cardAndSequence card sequence) = derivationData card sequence
 answer (halvesOf counter) = done (sessionHalves counter .0 ++ sessionHalves counter .1)
-answer (after c) = counterIn (afterKey (recordWith c))
+answer (after c) = counterIn (spent singleLength (stateWith c))
 
 -- how many bytes cleaning dropped and how many spaces went out; zeros where the answer is a refusal
 abbrev pub countsOf : List ℕ → Result (List ℕ) → List ℕ

@@ -1,94 +1,79 @@
--- The calls of a terminal in bytes, from the promises of `load` and `next_key`.
-use borrow.Author.Tests.{ne-eqb}
+-- The calls of a terminal in bytes, from what a loading and the call for the next key promise, for any device.
+use borrow.Author.Tests.{le-leb}
 use mathlib.Core.Path.{_≡_, refl, sym, ap, _∙_}
-use mathlib.Core.Bool.{false}
-use mathlib.Core.Logic.{_⊎_, inl, inr}
+use mathlib.Core.Bool.{Bool, true, false}
 use mathlib.Core.List.{List}
-use Prim.Native.Nat.{ℕ, _≤_, _<_}
+use Prim.Native.Nat.{ℕ, _≤_}
 use native.Mathlib.Omega.{arith}
 use lib.ListN.{length, getD}
-use Rattle.lent.specs.Refusals.{numberOf}
-use Rattle.lent.specs.Refusals as refusals
-use Rattle.lent.specs.Result.{done, refused, number, Written}
-use Rattle.lent.proofs.Results.{Refuses, not-zero, lent-all, over-whole}
-use Rattle.lent.proofs.Bases.{to-length}
-use Rattle.host.proofs.Laws.{length-with}
-use Rattle.terminal.specs.Record.{loadedRecord}
-use Rattle.terminal.specs.Promises.{Load, loading, Next, NextNumber}
-use Rattle.terminal.specs.Promises as promises
-use Rattle.terminal.specs.declared.loading.Loaded.{Loaded}
-use Rattle.terminal.specs.declared.calls.NextKey.{NextKey}
-use Rattle.terminal.proofs.Laws.{on-done, load-cases}
-use Rattle.recordbytes.specs.RecordBytes.{recordSize, recordBytes, terminalOf, ValidBytes}
-use Rattle.recordbytes.specs.Calls.{loadedBytes, CallNumber, invalid, exhausted, short, given, Called, nextKey}
+use Rattle.lent.specs.Refusals.{Refusal, numberOf, shortBuffer}
+use Rattle.lent.specs.Result.{Result, done, refused, require, andThen, Written}
+use Rattle.lent.proofs.Results.{Refuses, number-done, number-refuses, refuses-then, lent-all, over-whole}
+use Rattle.registers.specs.Device.{Device}
+use Rattle.registers.specs.Machine.{State, zeroState}
+use Rattle.registers.specs.Calls.{Given, loading, Load, given, nextKey}
+use Rattle.registers.specs.Calls as registers
+use Rattle.registers.proofs.Laws.{Lawful, length-with, next-done, next-room}
+use Rattle.recordbytes.specs.RecordBytes.{recordSize, lastPlace, recordBytes, stateOf}
+use Rattle.recordbytes.specs.Calls.{Call, loadedBytes, nextKeyOf, Keeps, roomy, Next}
+use Rattle.recordbytes.proofs.Laws.{next-bytes}
 
--- the answer of a loading: its refusal, or the bytes of the record that it gives
-module _ (initial serial : List ℕ) {r : Loaded} (load : Load initial serial r) where
-  abbrev Decided : Type 0
-  Decided = (loading initial serial ≡ done (loadedRecord initial serial)) ⊎ (loading initial serial ≡ refused refusals.size)
+module _ {K : Type 0} (device : Device K) where
+  -- the answer of a loading: its refusal, or the bytes of the record that it gives
+  module _ (initial serial : List ℕ) {num : ℕ} {s : State K} (load : Load device initial serial num s) where
+    pub load-refuses : ¬ (num ≡ 0) → Refuses num (loadedBytes device initial serial)
+    unfolding loadedBytes
+    load-refuses h = refuses-then _ (number-refuses (loading device initial serial) num (load .number) h)
 
-  pub load-refuses : ¬ (r .number ≡ 0) → Refuses (r .number) (loadedBytes initial serial)
-  unfolding loadedBytes
-  load-refuses h = go (load-cases initial serial)
-    where
-      go : Decided → Refuses (r .number) (loadedBytes initial serial)
-      go (inl e) = absurd (h (load .number ∙ ap number e))
-      go (inr e) = (refusals.size, load .number ∙ ap number e, rw e)
+    pub load-gives : num ≡ 0 → loadedBytes device initial serial ≡ done (recordBytes device s)
+    unfolding loadedBytes
+    load-gives z =
+        let e = number-done (loading device initial serial) (sym (load .number) ∙ z) (zeroState device) in
+        rw e (ap (λ (t : State K). done (recordBytes device t)) (sym (load .state)))
 
-  pub load-gives : r .number ≡ 0 → loadedBytes initial serial ≡ done (recordBytes (r .terminal))
-  unfolding loadedBytes
-  load-gives h = go (load-cases initial serial)
-    where
-      go : Decided → loadedBytes initial serial ≡ done (recordBytes (r .terminal))
-      go (inl e) = rw (load .terminal, e)
-      go (inr e) = absurd (not-zero refusals.size (sym (load .number ∙ ap number e) ∙ h))
+  -- a refusal leaves all as it was
+  pub refused-call : {o : Result (Given K)} {bytes key serial : List ℕ} (why : Refusal) {num : ℕ} → o ≡ refused why → num ≡ numberOf why
+      → Keeps device o bytes (record { key-before = key; serial-before = serial; number = num; length = 0; record-after = bytes; key-after = key; serial-after = serial })
+  refused-call why e f = rw (e, f) (record { number = refl; value = refl; state = refl; key-memory = refl; serial-memory = refl })
 
--- a refusal leaves all as it was
-pub refused-call : (s key serial : List ℕ) {n : ℕ} → CallNumber s (length key) (length serial) n → ¬ (n ≡ 0) → Called s key serial n 0 s key serial
-refused-call s key serial {n} why h =
-    let e = ne-eqb n 0 h in
-    record { number = why; value = rw e; state = rw e; key-memory = rw e; serial-memory = rw e }
+  -- A call with bytes of a record's size, whose last is 0 or 1, after a call y with the state of them and a buffer of a key's size.
+  module _ (bytes : List ℕ) (y : registers.Call K) (long : length bytes ≡ recordSize device) (flag : getD bytes (lastPlace device) 0 ≤ 1)
+      (next : registers.Keeps device (nextKey device (stateOf device bytes) true) (stateOf device bytes) y) where
+    abbrev s : State K
+    s = stateOf device bytes
 
--- A call with the record of 187 bytes and a block of 8 for the key.
-module _ (s : List ℕ) {r : NextKey} {block after : List ℕ}
-    (long : length s ≡ recordSize) (flag : getD s 186 0 ≤ 1) (room : length block ≡ 8) (next : Next (terminalOf s) block r after) where
-  -- a refusal is the call's
-  pub refused-number : {keyRoom serialRoom : ℕ} → ¬ (r .number ≡ 0) → CallNumber s keyRoom serialRoom (r .number)
-  refused-number {keyRoom} {serialRoom} h = go (next .number) h
-    where
-      go : {n : ℕ} → NextNumber (terminalOf s) (length block) n → ¬ (n ≡ 0) → CallNumber s keyRoom serialRoom n
-      go (promises.invalid bad) h = invalid long (λ v. bad (v .hangs-together))
-      go (promises.exhausted ok e) h = exhausted long (record { exhausted-byte = flag; hangs-together = ok }) e
-      go (promises.short ok e l) h = absurd (omega arith)
-      go (promises.given ok e l) h = absurd (h refl)
+    -- by the answer of y
+    by-answer : (enough : Bool) → nextKeyOf device bytes enough ≡ andThen (nextKey device s true) (λ g. require enough shortBuffer (done g))
+    by-answer enough = next-bytes device bytes long flag enough ∙ next-room device s enough
 
-  -- done, the bytes are a valid record that is not exhausted
-  running : r .number ≡ 0 → ValidBytes s × (terminalOf s .exhausted ≡ false)
-  running h = go (next .number) h
-    where
-      go : {n : ℕ} → NextNumber (terminalOf s) (length block) n → n ≡ 0 → ValidBytes s × (terminalOf s .exhausted ≡ false)
-      go (promises.invalid bad) h = absurd (omega arith)
-      go (promises.exhausted ok e) h = absurd (omega arith)
-      go (promises.short ok e l) h = absurd (omega arith)
-      go (promises.given ok e l) h = (record { exhausted-byte = flag; hangs-together = ok }, e)
+    -- where y is refused, so is the call
+    pub also-refused : ¬ (y .number ≡ 0) → (enough : Bool) → Refuses (y .number) (nextKeyOf device bytes enough)
+    also-refused h enough = rw (by-answer enough) (refuses-then _ (number-refuses (nextKey device s true) (y .number) (next .number) h))
 
-  pub short-number : {keyRoom serialRoom : ℕ} → r .number ≡ 0 → (keyRoom < 8) ⊎ (serialRoom < 10) → CallNumber s keyRoom serialRoom (numberOf refusals.shortBuffer)
-  short-number h why = let k = running h in short long (k .0) (k .1) why
+    -- where y is done, it is decided by the two buffers
+    module _ (z : y .number ≡ 0) where
+      answer : nextKey device s true ≡ done (given device s)
+      answer = next-done device s true (sym (next .number) ∙ z)
 
-  -- done, with room for the key and the serial number
-  pub given-call : (key serial : List ℕ) {keyAfter serialAfter : List ℕ} {i j m n : ℕ} → r .number ≡ 0 → 8 ≤ length key → 10 ≤ length serial
-      → Written (done after) key i j keyAfter → Written (done (r .serial)) serial m n serialAfter
-      → Called s key serial 0 8 (recordBytes (r .terminal)) keyAfter serialAfter
-  given-call key serial h hk hs wk ws =
-      let k = running h in
-      let v = nextKey (terminalOf s) in
-      let lv : length v ≡ 8 = to-length 256 8 _ in
-      let out : after ≡ v = next .memory ∙ on-done _ _ h ∙ over-whole v block (omega arith) in
-      let number = next .serial ∙ on-done _ _ h in
-      record {
-        number = given long (k .0) (k .1) hk hs;
-        value = refl;
-        state = ap recordBytes (next .terminal ∙ on-done _ _ h);
-        key-memory = lent-all (omega arith) (rw out at wk);
-        serial-memory = lent-all (omega (arith, length-with (terminalOf s .serial) (terminalOf s .counter))) (rw number at ws);
-      }
+      pub short-buffers : (enough : Bool) → enough ≡ false → nextKeyOf device bytes enough ≡ refused shortBuffer
+      short-buffers enough e = by-answer enough ∙ rw (answer, e)
+
+      pub called-done : (x : Call) {i j m n : ℕ} → Lawful device → length (y .before) ≡ device .size
+          → device .size ≤ length (x .key-before) → 10 ≤ length (x .serial-before)
+          → x .number ≡ 0 → x .length ≡ device .size → x .record-after ≡ recordBytes device (y .left)
+          → Written (done (y .after)) (x .key-before) i j (x .key-after) → Written (done (y .serial)) (x .serial-before) m n (x .serial-after)
+          → Next device bytes x
+      called-done x lawful room hk hs number value left wk ws =
+          let g = given device s in
+          let kept = rw answer at next in
+          let sized : length (g .key) ≡ device .size = lawful .sized _ in
+          let key-out : y .after ≡ g .key = kept .memory ∙ over-whole (g .key) (y .before) (sized ∙ sym room) in
+          let answered : nextKeyOf device bytes (roomy device x) ≡ done g =
+          by-answer (roomy device x) ∙ rw (answer, le-leb _ _ hk, le-leb _ _ hs) in
+          rw answered (record {
+            number = number;
+            value = value ∙ sym sized;
+            state = left ∙ ap (recordBytes device) (kept .left);
+            key-memory = lent-all (omega arith) (rw key-out at wk);
+            serial-memory = lent-all (omega (arith, length-with (s .serial) (s .counter))) (rw (kept .serial) at ws);
+          })

@@ -1,240 +1,143 @@
--- What readers cite: a record's bytes and the record give each other back, bytes are a valid record exactly if they are those of one, any other
--- 187 bytes are 11, exactly one number applies to a call, and a call in bytes is a call of `next_key`.
-use mathlib.Core.Path.{_≡_, refl, sym, ap, _∙_}
-use mathlib.Core.Bool.{Bool, true, false, false≢true}
-use mathlib.Core.Logic.{_⊎_, inl, inr, _↔_, Dec·and}
-use mathlib.Core.List.{List, [], map}
-use Prim.Native.Nat.{ℕ, _^_, _≤_, _<_}
-use native.Mathlib.Decide.{decLt, decLe, ℕ-discrete, map-dec}
+-- What readers cite, for any device: a record's bytes and the record give each other back, bytes are a valid record exactly if they are those of
+-- one, any others are refused, and a call with a record's bytes is one with the record.
+use borrow.Author.Tests.{leb-true, le-leb, eq-eqb, ne-eqb}
+use mathlib.Core.Path.{_≡_, sym, ap, _∙_}
+use mathlib.Core.Bool.{Bool}
+use mathlib.Core.Logic.{⊎-elim, _↔_, if-neg, by-cases}
+use mathlib.Core.List.{List, []}
+use Prim.Native.Nat.{ℕ, _+_, _*_, _^_, _≤_, _<_}
+use native.Mathlib.Decide.{decLt}
 use native.Mathlib.Omega.{arith}
-use lib.Dec.{eqb, lit<}
-use lib.ListN.{length, getD, take, drop, replicate, length-drop}
+use lib.Dec.{leb}
+use lib.ListN.{length, getD, take, drop, length-drop, List·getD-eq-default}
 use lib.Seq.{length-take-le}
-use Rattle.lent.specs.Choice.{pick}
-use Rattle.lent.specs.Refusals.{numberOf}
 use Rattle.lent.specs.Refusals as refusals
-use Rattle.lent.specs.Result.{over}
-use Rattle.lent.proofs.Bases.{Digits}
-use Rattle.registers.specs.Rule.{Running, Stopped}
-use Rattle.host.specs.SerialNumber.{withCounter}
-use Rattle.terminal.specs.Record.{dukpt, view, ValidRecord, afterKey}
-use Rattle.terminal.specs.Promises.{NextNumber, onDone, Next}
-use Rattle.terminal.specs.Promises as promises
-use Rattle.terminal.specs.declared.state.Terminal.{Terminal}
-use Rattle.terminal.specs.declared.calls.NextKey.{NextKey}
-use Rattle.terminal.proofs.Laws.{valid?, on-refused}
-use Rattle.recordbytes.specs.RecordBytes.{partSizes, recordSize, exhaustedByte, recordParts, recordBytes, Fits, terminalIn, terminalOf, ValidBytes}
-use Rattle.recordbytes.specs.Parts.{joined, cut, total}
-use Rattle.recordbytes.specs.Calls.{CallNumber, wrong-size, invalid, exhausted, short, given, Called, nextKey}
-use Rattle.recordbytes.proofs.Bytes.{parts-at, terminal-parts, last-part, number-back, digits-take, bytes-back, registers-back, register-bytes-back, registers-length, registers-lt, number-lt, part-sizes, exhausted-back, exhausted-le, exhausted-byte-back}
-use Rattle.recordbytes.proofs.Cutting.{joined-length, cut-joined, joined-cut}
+use Rattle.lent.specs.Result.{refused}
+use Rattle.lent.proofs.Laws.{cases}
+use Rattle.lent.proofs.Bases.{Digits, digits-take}
+use Rattle.registers.specs.Device.{Device}
+use Rattle.registers.specs.Machine.{State, keyAt}
+use Rattle.registers.specs.Rule.{Valid}
+use Rattle.registers.specs.Deciding.{valid?}
+use Rattle.registers.specs.Calls.{nextKey}
+use Rattle.registers.proofs.Laws.{Lawful, ReadBack}
+use Rattle.recordbytes.specs.RecordBytes.{partSizes, recordSize, lastPlace, exhaustedByte, recordParts, recordBytes, stateOfParts, stateOf, ValidBytes}
+use Rattle.recordbytes.specs.Parts.{joined, cut}
+use Rattle.recordbytes.specs.Calls.{nextKeyOf}
+use Rattle.recordbytes.proofs.Bytes.{parts-at, state-parts, last-part, number-back, bytes-back, registers-back, register-bytes-back, registers-length, registers-read-back, number-lt, part-sizes, record-length, exhausted-back, exhausted-le, exhausted-byte-back}
+use Rattle.recordbytes.proofs.Cutting.{cut-joined, joined-cut}
 
--- ---- writing, then reading
+module _ {K : Type 0} (device : Device K) where
+  -- a state that a record's bytes can hold: its keys are read back from their bytes, and its numbers have 32 bits
+  pub record Fits (s : State K) : Type 0 where
+    pub registers : length (s .keys) ≡ 21
+    pub keys : (b : ℕ) → ReadBack device (keyAt device s b)
+    pub filled : s .filled < 2 ^ 32
+    pub serial : length (s .serial) ≡ 10
+    pub counter : s .counter < 2 ^ 32
 
-module _ (t : Terminal) (fits : Fits t) where
-  sizes : map length (recordParts t) ≡ partSizes
-  sizes = part-sizes t (fits .registers) (fits .serial)
+  -- the call with bytes of a record's size, whose last is 0 or 1, is the call with the state of them
+  pub next-bytes : (bytes : List ℕ) → length bytes ≡ recordSize device → getD bytes (lastPlace device) 0 ≤ 1 → (enough : Bool)
+      → nextKeyOf device bytes enough ≡ nextKey device (stateOf device bytes) enough
+  unfolding nextKeyOf
+  next-bytes bytes long flag enough = rw (eq-eqb _ _ long, le-leb _ _ flag)
 
-  cut-written : cut partSizes (recordBytes t) ≡ recordParts t
-  unfolding recordBytes
-  cut-written = ap (λ (n : List ℕ). cut n (joined (recordParts t))) (sym sizes) ∙ cut-joined (recordParts t)
+  -- ---- bytes that are no valid record
 
-  -- a record has 187 bytes
-  pub written-length : length (recordBytes t) ≡ recordSize
-  unfolding recordBytes
-  written-length = joined-length (recordParts t) ∙ ap total sizes
+  -- of another size: 6
+  pub other-size : (bytes : List ℕ) → ¬ (length bytes ≡ recordSize device) → (enough : Bool) → nextKeyOf device bytes enough ≡ refused refusals.size
+  unfolding nextKeyOf
+  other-size bytes h enough = rw (ne-eqb _ _ h)
 
-  exhausted-at : getD (recordBytes t) 186 0 ≡ exhaustedByte (t .exhausted)
-  exhausted-at =
-      ap (λ (p : List ℕ). getD p 0 0) (sym (last-part (recordBytes t) written-length))
-      ∙ ap (λ (ps : List (List ℕ)). getD (getD ps 4 []) 0 0) (sym (parts-at (recordBytes t)) ∙ cut-written)
+  -- of its size: 11
+  pub other-bytes : (bytes : List ℕ) → length bytes ≡ recordSize device → ¬ ValidBytes device bytes → (enough : Bool)
+      → nextKeyOf device bytes enough ≡ refused refusals.badRecord
+  unfolding nextKeyOf nextKey
+  other-bytes bytes long bad enough =
+      rw (eq-eqb _ _ long) (cases (leb (getD bytes (lastPlace device) 0) 1)
+      (λ e. rw (e, if-neg (valid? device _) (λ ok. bad (record { size = long; exhausted-byte = leb-true _ _ e; hangs-together = ok }))))
+      (λ e. rw e))
 
-  -- what was written is read back
-  pub read-written : terminalOf (recordBytes t) ≡ t
-  unfolding terminalOf
-  read-written =
-      ap terminalIn cut-written
-      ∙ rw (
-        rw (fits .registers) at (registers-back (t .keys) (fits .words)),
-        number-back 4 (t .filled) (fits .filled),
-        number-back 4 (t .counter) (fits .counter),
-        exhausted-back (t .exhausted),
-      )
+  module _ (lawful : Lawful device) where
+    -- ---- writing, then reading
 
-  -- the bytes of a record that hangs together are valid
-  pub written-valid : ValidRecord t → ValidBytes (recordBytes t)
-  written-valid ok = record { exhausted-byte = rw exhausted-at (exhausted-le (t .exhausted)); hangs-together = rw read-written ok }
+    -- a state that hangs together fits if the keys in its registers are read back from their bytes
+    pub valid-fits : (s : State K) → Valid device s → ((b : ℕ) → b < 21 → ReadBack device (keyAt device s b)) → Fits s
+    valid-fits s ok keys = record {
+      registers = ok .size;
+      keys = λ b.
+          by-cases (decLt b 21) (keys b)
+          (λ h. rw (List·getD-eq-default (s .keys) (device .empty) {n = b} (omega (arith, ok .size))) (lawful .empty-back));
+      filled = omega (arith, ok .narrow);
+      serial = ok .serial-size;
+      counter = ⊎-elim (λ c. omega (arith, c .1 .fits)) (λ c. omega (arith, c .1)) (ok .counted);
+    }
 
--- a record that hangs together fits its types where its keys are words and its serial number has 10 bytes
-pub valid-fits : (t : Terminal) → ValidRecord t → ((b : ℕ) → getD (t .keys) b 0 < 2 ^ 64) → length (t .serial) ≡ 10 → Fits t
-valid-fits t ok words ten = go (ok .state)
-  where
-    go : Running dukpt (view t) ⊎ Stopped dukpt (view t) → Fits t
-    go (inl run) = record { registers = run .size; words = words; filled = omega (arith, run .narrow); serial = ten; counter = omega (arith, run .permitted .fits) }
-    go (inr stop) = record { registers = stop .size; words = words; filled = omega (arith, stop .unfilled); serial = ten; counter = omega (arith, stop .none) }
+    module _ (s : State K) (fits : Fits s) where
+      -- a record's bytes have its size
+      pub written-length : length (recordBytes device s) ≡ recordSize device
+      written-length = record-length device lawful s (fits .registers) (fits .serial)
 
--- ---- reading, then writing
+      cut-written : cut (partSizes device) (recordBytes device s) ≡ recordParts device s
+      unfolding recordBytes
+      cut-written =
+          ap (λ sizes. cut sizes (joined (recordParts device s))) (sym (part-sizes device lawful s (fits .registers) (fits .serial)))
+          ∙ cut-joined (recordParts device s)
 
-module _ (s : List ℕ) (long : length s ≡ recordSize) (d : Digits 256 s) where
-  -- the registers
-  first-part : length (take 168 s) ≡ 168
-  first-part = length-take-le 168 s (omega arith)
+      last-byte : getD (recordBytes device s) (lastPlace device) 0 ≤ 1
+      last-byte =
+          let last = last-part device (recordBytes device s) written-length in
+          let fifth = ap (λ parts. getD parts 4 []) (sym (parts-at device (recordBytes device s)) ∙ cut-written) in
+          let e : getD (recordBytes device s) (lastPlace device) 0 ≡ exhaustedByte (s .exhausted) = cc in
+          rw e (exhausted-le (s .exhausted))
 
-  first-bytes : Digits 256 (take 168 s)
-  first-bytes = digits-take 168 s (omega arith) d
+      -- what was written is read back
+      pub read-written : stateOf device (recordBytes device s) ≡ s
+      unfolding stateOf
+      read-written =
+          let registers = rw (fits .registers) at (registers-back device lawful (s .keys) (fits .keys)) in
+          ap (stateOfParts device) cut-written
+          ∙ rw (registers, number-back 4 (s .filled) (fits .filled), number-back 4 (s .counter) (fits .counter), exhausted-back (s .exhausted))
 
-  -- what was read is written back
-  pub written-read : getD s 186 0 ≤ 1 → recordBytes (terminalOf s) ≡ s
-  unfolding recordBytes
-  written-read h =
-      ap recordBytes (terminal-parts s)
-      ∙ rw (
-        last-part s long,
-        register-bytes-back 21 (take 168 s) first-part first-bytes,
-        bytes-back 4 168 s (omega arith) d,
-        bytes-back 4 182 s (omega arith) d,
-        exhausted-byte-back (getD s 186 0) h,
-      )
-      (rw (last-part s long) at (ap joined (sym (parts-at s)) ∙ joined-cut partSizes s long))
+      -- the bytes of a record that hangs together are valid
+      pub written-valid : Valid device s → ValidBytes device (recordBytes device s)
+      written-valid ok = record { size = written-length; exhausted-byte = last-byte; hangs-together = rw read-written ok }
 
-  -- what is read fits its types
-  pub read-fits : Fits (terminalOf s)
-  read-fits = rw (terminal-parts s) (record {
-    registers = registers-length 21 (take 168 s);
-    words = registers-lt 21 (take 168 s) first-bytes;
-    filled = number-lt 168 s (omega arith) d;
-    serial = length-take-le 10 (drop 172 s) (omega (arith, length-drop 172 s));
-    counter = number-lt 182 s (omega arith) d;
-  })
+      -- the call with them is the call with the record
+      pub written-next : (enough : Bool) → nextKeyOf device (recordBytes device s) enough ≡ nextKey device s enough
+      written-next enough = rw read-written at (next-bytes (recordBytes device s) written-length last-byte enough)
 
-  -- 187 bytes are a valid record exactly if they are the bytes of one
-  pub valid-bytes : ValidBytes s ↔ ((t : Terminal) × Fits t × ValidRecord t × (recordBytes t ≡ s))
-  valid-bytes = (
-    λ v. (terminalOf s, read-fits, v .hangs-together, written-read (v .exhausted-byte)),
-    λ h. rw (h .3) at (written-valid (h .0) (h .1) (h .2)),
-  )
+    -- ---- reading, then writing
 
--- ---- the number of a call
+    module _ (bytes : List ℕ) (long : length bytes ≡ recordSize device) (d : Digits 256 bytes) where
+      -- what was read is written back
+      pub written-read : getD bytes (lastPlace device) 0 ≤ 1 → recordBytes device (stateOf device bytes) ≡ bytes
+      unfolding recordBytes
+      written-read h =
+          let at = 21 * device .size in
+          let last = last-part device bytes long in
+          let size = length-take-le at bytes (omega arith) in
+          let registers = register-bytes-back device lawful 21 (take at bytes) (omega arith) (digits-take 256 at bytes d) in
+          ap (recordBytes device) (state-parts device bytes)
+          ∙ rw (last, registers, bytes-back 4 at bytes (omega arith) d, bytes-back 4 (at + 14) bytes (omega arith) d, exhausted-byte-back _ h)
+          (rw last at (ap joined (sym (parts-at device bytes)) ∙ joined-cut (partSizes device) bytes long))
 
-roomy : {k m : ℕ} → (k < 8) ⊎ (m < 10) → 8 ≤ k → 10 ≤ m → ⊥
-roomy (inl h) i j = omega arith
-roomy (inr h) i j = omega arith
+      -- what is read fits
+      pub read-fits : Fits (stateOf device bytes)
+      read-fits =
+          let at = 21 * device .size in
+          rw (state-parts device bytes) (record {
+            registers = registers-length device 21 (take at bytes);
+            keys = registers-read-back device lawful 21 (take at bytes) (digits-take 256 at bytes d);
+            filled = number-lt at bytes d;
+            serial = length-take-le 10 (drop (at + 4) bytes) (rw length-drop (omega arith));
+            counter = number-lt (at + 14) bytes d;
+          })
 
-module _ (s : List ℕ) where
-  valid-bytes? : Dec (ValidBytes s)
-  valid-bytes? =
-      map-dec (λ h. record { exhausted-byte = h .0; hangs-together = h .1 }) (λ v. (v .exhausted-byte, v .hangs-together))
-      (Dec·and (decLe (getD s 186 0) 1) (valid? (terminalOf s)))
-
-  module _ (keyRoom serialRoom : ℕ) where
-    -- a number applies
-    pub some-number : (n : ℕ) × CallNumber s keyRoom serialRoom n
-    some-number = go (ℕ-discrete (length s) recordSize) valid-bytes? (terminalOf s .exhausted) refl (decLt keyRoom 8) (decLt serialRoom 10)
-      where
-        go : Dec (length s ≡ recordSize) → Dec (ValidBytes s) → (b : Bool) → terminalOf s .exhausted ≡ b → Dec (keyRoom < 8) → Dec (serialRoom < 10)
-            → (n : ℕ) × CallNumber s keyRoom serialRoom n
-        go (no l) v b e k m = (_, wrong-size l)
-        go (yes l) (no v) b e k m = (_, invalid l v)
-        go (yes l) (yes v) true e k m = (_, exhausted l v e)
-        go (yes l) (yes v) false e (yes k) m = (_, short l v e (inl k))
-        go (yes l) (yes v) false e (no k) (yes m) = (_, short l v e (inr m))
-        go (yes l) (yes v) false e (no k) (no m) = (_, given l v e (omega arith) (omega arith))
-
-    -- and no other does
-    pub one-number : {m n : ℕ} → CallNumber s keyRoom serialRoom m → CallNumber s keyRoom serialRoom n → m ≡ n
-    one-number (wrong-size l) (wrong-size k) = refl
-    one-number (wrong-size l) (invalid k v) = absurd (l k)
-    one-number (wrong-size l) (exhausted k v e) = absurd (l k)
-    one-number (wrong-size l) (short k v e h) = absurd (l k)
-    one-number (wrong-size l) (given k v e h i) = absurd (l k)
-    one-number (invalid k v) (wrong-size l) = absurd (l k)
-    one-number (invalid k v) (invalid l w) = refl
-    one-number (invalid k v) (exhausted l w e) = absurd (v w)
-    one-number (invalid k v) (short l w e h) = absurd (v w)
-    one-number (invalid k v) (given l w e h i) = absurd (v w)
-    one-number (exhausted k v e) (wrong-size l) = absurd (l k)
-    one-number (exhausted k v e) (invalid l w) = absurd (w v)
-    one-number (exhausted k v e) (exhausted l w f) = refl
-    one-number (exhausted k v e) (short l w f h) = absurd (false≢true (sym f ∙ e))
-    one-number (exhausted k v e) (given l w f h i) = absurd (false≢true (sym f ∙ e))
-    one-number (short k v e h) (wrong-size l) = absurd (l k)
-    one-number (short k v e h) (invalid l w) = absurd (w v)
-    one-number (short k v e h) (exhausted l w f) = absurd (false≢true (sym e ∙ f))
-    one-number (short k v e h) (short l w f i) = refl
-    one-number (short k v e h) (given l w f i j) = absurd (roomy h i j)
-    one-number (given k v e i j) (wrong-size l) = absurd (l k)
-    one-number (given k v e i j) (invalid l w) = absurd (w v)
-    one-number (given k v e i j) (exhausted l w f) = absurd (false≢true (sym e ∙ f))
-    one-number (given k v e i j) (short l w f h) = absurd (roomy h i j)
-    one-number (given k v e i j) (given l w f h g) = refl
-
--- any other 187 bytes are refused with 11, and nothing is changed
-pub other-bytes : (s key serial sAfter keyAfter serialAfter : List ℕ) (num len : ℕ) → Called s key serial num len sAfter keyAfter serialAfter
-    → length s ≡ recordSize → ¬ ValidBytes s
-    → (num ≡ numberOf refusals.badRecord) × (len ≡ 0) × (sAfter ≡ s) × (keyAfter ≡ key) × (serialAfter ≡ serial)
-other-bytes s key serial sAfter keyAfter serialAfter num len call long bad =
-    let e = one-number s (length key) (length serial) (call .number) (invalid long bad) in
-    (e, rw e at (call .value), rw e at (call .state), rw e at (call .key-memory), rw e at (call .serial-memory))
-
--- ---- a call in bytes is a call of `next_key`
-
-pick-ap : (b : Bool) {A B : Type 0} (f : A → B) (x y : A) → pick b (f x) (f y) ≡ f (pick b x y)
-pick-ap true f x y = refl
-pick-ap false f x y = refl
-
-pick-over : (b : Bool) (x y s : List ℕ) → pick b (over x s) s ≡ pick b (over (pick b x y) s) s
-pick-over true x y s = refl
-pick-over false x y s = refl
-
--- The call with the bytes of a record t is one of `next_key` with t and a buffer: the number is its answer's, the bytes left are those of the
--- record that it returns, and the serial number that it gives stands in the serial buffer.
-pub record IsNext (t : Terminal) (buffer serial : List ℕ) (num : ℕ) (sAfter bufferAfter serialAfter : List ℕ) : Type 0 where
-  pub answer : NextKey
-  pub promise : Next t buffer answer bufferAfter
-  pub number : num ≡ answer .number
-  pub state : sAfter ≡ recordBytes (answer .terminal)
-  pub serial-number : serialAfter ≡ onDone num (over (answer .serial) serial) serial
-
-module _ (t : Terminal) (fits : Fits t) (key serial sAfter keyAfter serialAfter : List ℕ) (num len : ℕ)
-    (call : Called (recordBytes t) key serial num len sAfter keyAfter serialAfter) where
-  back : terminalOf (recordBytes t) ≡ t
-  back = read-written t fits
-
-  -- with a buffer for which the number applies
-  as-next : (buffer bufferAfter : List ℕ) → NextNumber t (length buffer) num → bufferAfter ≡ onDone num (over (nextKey t) buffer) buffer
-      → IsNext t buffer serial num sAfter bufferAfter serialAfter
-  as-next buffer bufferAfter why memory = record {
-    answer = record {
-      number = num;
-      counter = onDone num (t .counter) 0;
-      serial = onDone num (withCounter (t .serial) (t .counter)) (replicate 10 0);
-      terminal = onDone num (afterKey t) t;
-    };
-    promise = record { number = why; counter = refl; serial = refl; terminal = refl; memory = memory };
-    number = refl;
-    state = rw back at (call .state) ∙ pick-ap (eqb num 0) recordBytes (afterKey t) t;
-    serial-number = rw back at (call .serial-memory) ∙ pick-over (eqb num 0) (withCounter (t .serial) (t .counter)) (replicate 10 0) serial;
-  }
-
-  -- with room for the serial number, the key buffer is its buffer
-  pub called-next : 10 ≤ length serial → IsNext t key serial num sAfter keyAfter serialAfter
-  called-next long = as-next key keyAfter (numbered (call .number)) (rw back at (call .key-memory))
-    where
-      numbered : {n : ℕ} → CallNumber (recordBytes t) (length key) (length serial) n → NextNumber t (length key) n
-      numbered (wrong-size l) = absurd (l (written-length t fits))
-      numbered (invalid l v) = promises.invalid (λ ok. v (written-valid t fits ok))
-      numbered (exhausted l v e) = promises.exhausted (rw back at (v .hangs-together)) (rw back at e)
-      numbered (short l v e (inl h)) = promises.short (rw back at (v .hangs-together)) (rw back at e) h
-      numbered (short l v e (inr h)) = absurd (omega arith)
-      numbered (given l v e h i) = promises.given (rw back at (v .hangs-together)) (rw back at e) h
-
-  -- without it, the call is refused as one with an empty buffer is
-  pub called-short : length serial < 10 → IsNext t [] serial num sAfter [] serialAfter
-  called-short few = let k = numbered (call .number) in as-next [] [] (k .0) (sym (on-refused _ _ (k .1)))
-    where
-      numbered : {n : ℕ} → CallNumber (recordBytes t) (length key) (length serial) n → NextNumber t 0 n × ¬ (n ≡ 0)
-      numbered (wrong-size l) = absurd (l (written-length t fits))
-      numbered (invalid l v) = (promises.invalid (λ ok. v (written-valid t fits ok)), λ z. omega arith)
-      numbered (exhausted l v e) = (promises.exhausted (rw back at (v .hangs-together)) (rw back at e), λ z. omega arith)
-      numbered (short l v e h) = (promises.short (rw back at (v .hangs-together)) (rw back at e) (lit< tt), λ z. omega arith)
-      numbered (given l v e h i) = absurd (omega arith)
+    -- bytes are a valid record exactly if they are the bytes of one
+    pub valid-bytes : (bytes : List ℕ) → Digits 256 bytes
+        → ValidBytes device bytes ↔ ((s : State K) × Fits s × Valid device s × (recordBytes device s ≡ bytes))
+    valid-bytes bytes d = (
+      λ v. (stateOf device bytes, read-fits bytes (v .size) d, v .hangs-together, written-read bytes (v .size) d (v .exhausted-byte)),
+      λ h. rw (h .3) at (written-valid (h .0) (h .1) (h .2)),
+    )

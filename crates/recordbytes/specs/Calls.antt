@@ -1,49 +1,54 @@
--- What a loading answers, and what the call for the next key promises of its three buffers (01, Numbers an operator sees; Terminal keys).
+-- A loading and the call for the next key, of a record in bytes (01, Numbers an operator sees; Terminal keys), for any device: what they answer
+-- and promise.
 use mathlib.Core.Path.{_≡_}
-use mathlib.Core.Bool.{true, false}
-use mathlib.Core.Logic.{_⊎_}
-use mathlib.Core.List.{List}
-use Prim.Native.Nat.{ℕ, _≤_, _<_}
-use lib.ListN.{length}
-use Rattle.lent.specs.Result.{Result, done, andThen, over}
-use Rattle.lent.specs.Words.{wordBytes}
-use Rattle.lent.specs.Refusals.{numberOf}
+use mathlib.Core.Bool.{Bool}
+use mathlib.Core.List.{List, []}
+use Prim.Native.Nat.{ℕ}
+use lib.Dec.{eqb, leb}
+use lib.ListN.{length, getD}
+use Rattle.lent.specs.Choice.{both}
 use Rattle.lent.specs.Refusals as refusals
-use Rattle.registers.specs.Machine.{readyKey}
-use Rattle.host.specs.SerialNumber.{withCounter}
-use Rattle.host.specs.Derivation.{givenOut}
-use Rattle.terminal.specs.Record.{dukpt, view, afterKey}
-use Rattle.terminal.specs.Promises.{loading, onDone}
-use Rattle.terminal.specs.declared.state.Terminal.{Terminal}
-use Rattle.recordbytes.specs.RecordBytes.{recordSize, recordBytes, terminalOf, ValidBytes}
+use Rattle.lent.specs.Result.{Result, done, require, andThen, over, ofDone}
+use Rattle.lent.specs.Result as result
+use Rattle.registers.specs.Device.{Device}
+use Rattle.registers.specs.Calls.{Given, loading, nextKey}
+use Rattle.recordbytes.specs.RecordBytes.{recordSize, lastPlace, recordBytes, stateOf}
 
--- the bytes of the record that a loading gives, or its refusal
-unfoldable pub loadedBytes : List ℕ → List ℕ → Result (List ℕ)
-loadedBytes initial serial = andThen (loading initial serial) (λ t. done (recordBytes t))
+-- A call for the next key: its key buffer and its serial buffer before it; its number and length; and the record's bytes and the two buffers
+-- after it.
+pub record Call : Type 0 where
+  pub key-before : List ℕ
+  pub serial-before : List ℕ
+  pub number : ℕ
+  pub length : ℕ
+  pub record-after : List ℕ
+  pub key-after : List ℕ
+  pub serial-after : List ℕ
 
--- the number of a call with the record's bytes s and buffers of keyRoom and serialRoom bytes, line by line
-pub data CallNumber (s : List ℕ) (keyRoom serialRoom : ℕ) : ℕ → Type 0 where
-  wrong-size : ¬ (length s ≡ recordSize) → CallNumber s keyRoom serialRoom (numberOf refusals.size)
-  invalid : length s ≡ recordSize → ¬ ValidBytes s → CallNumber s keyRoom serialRoom (numberOf refusals.badRecord)
-  exhausted : length s ≡ recordSize → ValidBytes s → terminalOf s .exhausted ≡ true → CallNumber s keyRoom serialRoom (numberOf refusals.exhausted)
-  short : length s ≡ recordSize → ValidBytes s → terminalOf s .exhausted ≡ false → (keyRoom < 8) ⊎ (serialRoom < 10)
-      → CallNumber s keyRoom serialRoom (numberOf refusals.shortBuffer)
-  given : length s ≡ recordSize → ValidBytes s → terminalOf s .exhausted ≡ false → 8 ≤ keyRoom → 10 ≤ serialRoom
-      → CallNumber s keyRoom serialRoom 0
+module _ {K : Type 0} (device : Device K) where
+  -- the bytes of the record that a loading gives, or its refusal
+  unfoldable pub loadedBytes : List ℕ → List ℕ → Result (List ℕ)
+  loadedBytes initial serial = andThen (loading device initial serial) (λ s. done (recordBytes device s))
 
--- the key that a record gives out next, and the serial number with its counter
-abbrev pub nextKey : Terminal → List ℕ
-nextKey t = wordBytes (givenOut (readyKey dukpt (view t)))
+  -- what the record of the bytes gives out, or the refusal: 6 for bytes of another size, 11 for a last byte above 1, then that of the record
+  unfoldable pub nextKeyOf : List ℕ → Bool → Result (Given K)
+  nextKeyOf bytes enough =
+      require (eqb (length bytes) (recordSize device)) refusals.size
+      (require (leb (getD bytes (lastPlace device) 0) 1) refusals.badRecord
+      (nextKey device (stateOf device bytes) enough))
 
-abbrev pub nextSerial : Terminal → List ℕ
-nextSerial t = withCounter (t .serial) (t .counter)
+  -- the call x with these bytes is answered by o: where refused, the three buffers stay
+  pub record Keeps (o : Result (Given K)) (bytes : List ℕ) (x : Call) : Type 0 where
+    pub number : x .number ≡ result.number o
+    pub value : x .length ≡ length (ofDone (λ g. g .key) [] o)
+    pub state : x .record-after ≡ ofDone (λ g. recordBytes device (g .left)) bytes o
+    pub key-memory : x .key-after ≡ over (ofDone (λ g. g .key) [] o) (x .key-before)
+    pub serial-memory : x .serial-after ≡ over (ofDone (λ g. g .serial) [] o) (x .serial-before)
 
--- The promise of `next_key`, of the record, the key buffer and the serial buffer before and after: where done, the record after the
--- key, the key from the start of its buffer, and the serial number with its counter from the start of the other; where refused, all three
--- as they were.
-pub record Called (s key serial : List ℕ) (num len : ℕ) (sAfter keyAfter serialAfter : List ℕ) : Type 0 where
-  pub number : CallNumber s (length key) (length serial) num
-  pub value : len ≡ onDone num 8 0
-  pub state : sAfter ≡ onDone num (recordBytes (afterKey (terminalOf s))) s
-  pub key-memory : keyAfter ≡ onDone num (over (nextKey (terminalOf s)) key) key
-  pub serial-memory : serialAfter ≡ onDone num (over (nextSerial (terminalOf s)) serial) serial
+  -- whether both of its buffers are long enough
+  abbrev pub roomy : Call → Bool
+  roomy x = both (leb (device .size) (length (x .key-before))) (leb 10 (length (x .serial-before)))
+
+  -- the promise of a call for the next key
+  abbrev pub Next : List ℕ → Call → Type 0
+  Next bytes x = Keeps (nextKeyOf bytes (roomy x)) bytes x

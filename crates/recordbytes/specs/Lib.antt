@@ -1,4 +1,4 @@
 pub mod Parts
 pub mod RecordBytes
 pub mod Calls
-pub mod Demand
+pub mod Records

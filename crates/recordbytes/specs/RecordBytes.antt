@@ -1,89 +1,86 @@
--- The terminal's record as 187 bytes (include/chizuregwo.h): registers 0 to 20, the filled mask, the serial number, the counter, and
+-- A terminal's record as bytes (include/chizuregwo.h), for any device: registers 0 to 20, the filled mask, the serial number, the counter, and
 -- whether the terminal is exhausted. Numbers have their highest byte first.
 use mathlib.Core.Path.{_≡_}
 use mathlib.Core.Bool.{Bool, true, false}
 use mathlib.Core.List.{List, [], _∷_, _++_}
-use Prim.Native.Nat.{ℕ, zero, suc, _^_, _≤_, _<_}
+use Prim.Native.Nat.{ℕ, zero, suc, _+_, _*_, _≤_}
 use lib.Dec.{eqb}
 use lib.ListN.{length, getD, drop}
-use Rattle.lent.specs.Words.{word, wordBytes, fromBase, toBase}
-use Rattle.terminal.specs.Record.{ValidRecord}
-use Rattle.terminal.specs.declared.state.Terminal.{Terminal}
+use Rattle.lent.specs.Words.{fromBase, toBase}
+use Rattle.registers.specs.Device.{Device}
+use Rattle.registers.specs.Machine.{State}
+use Rattle.registers.specs.Rule.{Valid}
 use Rattle.recordbytes.specs.Parts.{joined, cut}
 
--- the sizes of its parts
-abbrev pub partSizes : List ℕ
-partSizes = 168 ∷ 4 ∷ 10 ∷ 4 ∷ 1 ∷ []
-
--- their sum
-abbrev pub recordSize : ℕ
-recordSize = 187
-
--- ---- writing
-
--- registers, 8 bytes each
-unfoldable pub registerBytes : List ℕ → List ℕ
-registerBytes [] = []
-registerBytes (key ∷ keys) = wordBytes key ++ registerBytes keys
-
--- a number of 32 bits, 4 bytes
+-- a number of 32 bits, 4 bytes, and the number of its bytes
 abbrev pub numberBytes : ℕ → List ℕ
 numberBytes x = toBase 256 4 x
+
+abbrev pub numberRead : List ℕ → ℕ
+numberRead s = fromBase 256 4 s
 
 -- exhausted, 1 byte: 1 or 0
 abbrev pub exhaustedByte : Bool → ℕ
 exhaustedByte false = 0
 exhaustedByte true = 1
 
--- the parts of a record
-abbrev pub recordParts : Terminal → List (List ℕ)
-recordParts t =
-    registerBytes (t .keys)
-    ∷ numberBytes (t .filled)
-    ∷ t .serial
-    ∷ numberBytes (t .counter)
-    ∷ (exhaustedByte (t .exhausted) ∷ [])
-    ∷ []
+module _ {K : Type 0} (device : Device K) where
+  -- the sizes of a record's parts
+  abbrev pub partSizes : List ℕ
+  partSizes = 21 * device .size ∷ 4 ∷ 10 ∷ 4 ∷ 1 ∷ []
 
--- its bytes
-unfoldable pub recordBytes : Terminal → List ℕ
-recordBytes t = joined (recordParts t)
+  -- their sum, and the place of the last byte
+  abbrev pub recordSize : ℕ
+  recordSize = 21 * device .size + 19
 
--- the parts of a record fit their types: 21 words, two numbers of 32 bits, and 10 bytes of serial number
-pub record Fits (t : Terminal) : Type 0 where
-  pub registers : length (t .keys) ≡ 21
-  pub words : (b : ℕ) → getD (t .keys) b 0 < 2 ^ 64
-  pub filled : t .filled < 2 ^ 32
-  pub serial : length (t .serial) ≡ 10
-  pub counter : t .counter < 2 ^ 32
+  abbrev pub lastPlace : ℕ
+  lastPlace = 21 * device .size + 18
 
--- ---- reading
+  -- ---- writing
 
--- n registers from the start of the bytes
-unfoldable pub registersOf : ℕ → List ℕ → List ℕ
-registersOf zero s = []
-registersOf (suc n) s = word s ∷ registersOf n (drop 8 s)
+  -- registers, one after the other
+  unfoldable pub registerBytes : List K → List ℕ
+  registerBytes [] = []
+  registerBytes (key ∷ keys) = device .bytes key ++ registerBytes keys
 
--- a number of 32 bits from its 4 bytes
-abbrev pub numberRead : List ℕ → ℕ
-numberRead s = fromBase 256 4 s
+  -- the parts of a record
+  abbrev pub recordParts : State K → List (List ℕ)
+  recordParts s =
+      registerBytes (s .keys)
+      ∷ numberBytes (s .filled)
+      ∷ s .serial
+      ∷ numberBytes (s .counter)
+      ∷ (exhaustedByte (s .exhausted) ∷ [])
+      ∷ []
 
--- the record of five parts
-abbrev pub terminalIn : List (List ℕ) → Terminal
-terminalIn parts =
-    record {
-      keys = registersOf 21 (getD parts 0 []);
-      filled = numberRead (getD parts 1 []);
-      serial = getD parts 2 [];
-      counter = numberRead (getD parts 3 []);
-      exhausted = eqb (getD (getD parts 4 []) 0 0) 1;
-    }
+  -- its bytes
+  unfoldable pub recordBytes : State K → List ℕ
+  recordBytes s = joined (recordParts s)
 
--- the record of 187 bytes
-unfoldable pub terminalOf : List ℕ → Terminal
-terminalOf s = terminalIn (cut partSizes s)
+  -- ---- reading
 
--- 187 bytes are a valid record: the last of them is 0 or 1, and the record of them hangs together
-pub record ValidBytes (s : List ℕ) : Type 0 where
-  pub exhausted-byte : getD s 186 0 ≤ 1
-  pub hangs-together : ValidRecord (terminalOf s)
+  -- n registers from the start of the bytes
+  unfoldable pub registersOf : ℕ → List ℕ → List K
+  registersOf zero bytes = []
+  registersOf (suc n) bytes = device .read bytes ∷ registersOf n (drop (device .size) bytes)
+
+  -- the record of five parts
+  abbrev pub stateOfParts : List (List ℕ) → State K
+  stateOfParts parts =
+      record {
+        keys = registersOf 21 (getD parts 0 []);
+        filled = numberRead (getD parts 1 []);
+        serial = getD parts 2 [];
+        counter = numberRead (getD parts 3 []);
+        exhausted = eqb (getD (getD parts 4 []) 0 0) 1;
+      }
+
+  -- the record of bytes
+  unfoldable pub stateOf : List ℕ → State K
+  stateOf bytes = stateOfParts (cut partSizes bytes)
+
+  -- bytes are a valid record: they have its size, the last of them is 0 or 1, and the record of them hangs together
+  pub record ValidBytes (bytes : List ℕ) : Type 0 where
+    pub size : length bytes ≡ recordSize
+    pub exhausted-byte : getD bytes lastPlace 0 ≤ 1
+    pub hangs-together : Valid device (stateOf bytes)

@@ -2,12 +2,13 @@
 use crate::record::put_record;
 use crate::record::terminal_of;
 ghost use Rattle.lent.specs.Result.{Written};
-ghost use Rattle.recordbytes.specs.Calls.{loadedBytes, Called};
+ghost use Rattle.host.specs.SingleLength.{singleLength};
+ghost use Rattle.recordbytes.specs.Calls.{loadedBytes, Next};
 
 // Loads a terminal, and writes its record. Refuses with 6 if the initial key does not have 8 bytes or the serial number 10, 13 if the buffer is
 // shorter than the record.
 pub fn load(initial: &[u8], serial: &[u8], out: &mut [u8]) -> lent::Answer
-    ensures { λ r. ⌜ Written (loadedBytes (now (initial .entry)) (now (serial .entry))) (now (out .entry)) (r .number) (r .length) (now (out .exit)) ⌝ }
+    ensures { λ r. ⌜ Written (loadedBytes singleLength (now (initial .entry)) (now (serial .entry))) (now (out .entry)) (r .number) (r .length) (now (out .exit)) ⌝ }
 {
     let loaded = terminal::load(initial, serial);
     if loaded.number != lent::DONE {
@@ -22,7 +23,7 @@ pub fn load(initial: &[u8], serial: &[u8], out: &mut [u8]) -> lent::Answer
 // does not have 187 bytes, 11 if they are no valid record, 12 if it is exhausted, 13 if the key buffer is shorter than 8 or the serial buffer
 // shorter than 10. A refusal leaves all three as they were.
 pub fn next_key(record: &mut [u8], key: &mut [u8], serial: &mut [u8]) -> lent::Answer
-    ensures { λ r. ⌜ Called (now («record» .entry)) (now (key .entry)) (now (serial .entry)) (r .number) (r .length) (now («record» .exit)) (now (key .exit)) (now (serial .exit)) ⌝ }
+    ensures { λ r. ⌜ Next singleLength (now («record» .entry)) (record { key-before = now (key .entry); serial-before = now (serial .entry); number = r .number; length = r .length; record-after = now («record» .exit); key-after = now (key .exit); serial-after = now (serial .exit) }) ⌝ }
 {
     if record.len() != 187 {
         return lent::refused(lent::SIZE);

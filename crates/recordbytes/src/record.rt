@@ -3,7 +3,9 @@ use terminal::Terminal;
 ghost use mathlib.Core.Path.{_≡_};
 ghost use lib.ListN.{length};
 ghost use Rattle.lent.specs.Private.{Appends};
-ghost use Rattle.recordbytes.specs.RecordBytes.{recordSize, recordBytes, numberBytes, registerBytes, registersOf, terminalOf};
+ghost use Rattle.host.specs.SingleLength.{singleLength};
+ghost use Rattle.terminal.specs.View.{view};
+ghost use Rattle.recordbytes.specs.RecordBytes.{recordSize, recordBytes, numberBytes, registerBytes, registersOf, stateOf};
 
 // ---- writing
 
@@ -17,7 +19,7 @@ fn put(bytes: &mut [u8], n: usize, part: &[u8]) -> usize
 
 // Writes the registers, 8 bytes each.
 fn put_registers(keys: [u64; 21], bytes: &mut [u8]) -> usize
-    ensures { λ r. ⌜ Appends (registerBytes keys) (now (bytes .entry)) (now (bytes .exit)) 0 r ⌝ }
+    ensures { λ r. ⌜ Appends (registerBytes singleLength keys) (now (bytes .entry)) (now (bytes .exit)) 0 r ⌝ }
 {
     let mut n: usize = 0;
     let mut i: usize = 0;
@@ -39,8 +41,8 @@ fn put_number(bytes: &mut [u8], n: usize, x: u32) -> usize
 
 // Writes a record.
 pub(crate) fn put_record(t: Terminal, bytes: &mut [u8])
-    requires { ⌜ length (now bytes) ≡ recordSize ⌝ }
-    ensures { λ _. ⌜ now (bytes .exit) ≡ recordBytes t ⌝ }
+    requires { ⌜ length (now bytes) ≡ recordSize singleLength ⌝ }
+    ensures { λ _. ⌜ now (bytes .exit) ≡ recordBytes singleLength (view t) ⌝ }
 {
     let keys = t.keys;
     let serial = t.serial;
@@ -57,7 +59,7 @@ pub(crate) fn put_record(t: Terminal, bytes: &mut [u8])
 // The registers, 8 bytes each.
 fn registers_of(bytes: &[u8]) -> [u64; 21]
     requires { ⌜ length (now bytes) ≡ 168 ⌝ }
-    ensures { λ r. ⌜ r ≡ registersOf 21 (now (bytes .entry)) ⌝ }
+    ensures { λ r. ⌜ r ≡ registersOf singleLength 21 (now (bytes .entry)) ⌝ }
 {
     let mut keys = [0u64; 21];
     let mut i: usize = 0;
@@ -80,8 +82,8 @@ fn serial_of(bytes: &[u8]) -> [u8; 10]
 
 // Reads a record.
 pub(crate) fn terminal_of(bytes: &[u8]) -> Terminal
-    requires { ⌜ length (now bytes) ≡ recordSize ⌝ }
-    ensures { λ r. ⌜ r ≡ terminalOf (now (bytes .entry)) ⌝ }
+    requires { ⌜ length (now bytes) ≡ recordSize singleLength ⌝ }
+    ensures { λ r. ⌜ view r ≡ stateOf singleLength (now (bytes .entry)) ⌝ }
 {
     Terminal {
         keys: registers_of(&bytes[..168]),

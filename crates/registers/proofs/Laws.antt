@@ -1,36 +1,50 @@
--- What other crates cite, and that each n up to 1,048,575 has exactly one n-th smallest permitted counter.
--- the register of a counter, and its bit
+-- What other crates cite: demand 3, what a device and a way of calling it owe for it, that a state stays in order, and the permitted counters in
+-- order.
+-- demand 3, and that there are calls to speak of
+pub use Rattle.registers.proofs.Lawful.{ReadBack, Lawful}
+pub use Rattle.registers.proofs.States.{After, after-loading, after-valid, after-demand}
+pub use Rattle.registers.proofs.Theorem.{Sound, sound-demand3}
+pub use Rattle.registers.proofs.Records.{demand3, promised-loaded, done-writes, refused-stays, callWith, some-calls, one-call}
+pub use Rattle.registers.proofs.Traces.{some-trace}
+-- the host's derivations, and the halves of a derivation key
+pub use Rattle.registers.proofs.Hosts.{Fit, fit, initial-done, initial-loads, host-refuses, host-done}
+-- loading and a call, by their cases
+pub use Rattle.registers.proofs.Calls.{load-cases, load-refused, next-invalid, next-over, next-short, next-full, next-done, next-room, refused-next, zero-invalid}
+-- a state hangs together exactly if it passes the tests, and a key leaves one that does
+pub use Rattle.registers.proofs.Validity.{runs-counted, positionOf, Checked, checked-valid, valid-checked}
+pub use Rattle.registers.proofs.Spent.{renewed-few, renewed-full, spent-ends, spent-goes-on, spent-valid}
+-- the register of a counter, its bit, and a loop that fills registers
 pub use Rattle.registers.proofs.Bits.{place-lt, place-room, one-shl}
--- a loop that fills registers; the registers and the state after a key
 pub use Rattle.registers.proofs.Filling.{fill-none, fill-turn}
-pub use Rattle.registers.proofs.Spent.{renewed-few, renewed-full, spent-next, spent-none, call-full}
--- a state hangs together exactly if it passes the tests
-pub use Rattle.registers.proofs.Validity.{checked-valid, valid-checked}
--- the loaded state, one call, and what a state says of the keys to come
-pub use Rattle.registers.proofs.Calls.{loaded-follows, Step, past, short, full, step, waiting, ready-most, follows-most}
--- a list of calls
-pub use Rattle.registers.proofs.Traces.{each-record, each-call}
+-- the serial number with its counter replaced
+pub use Rattle.registers.proofs.SerialNumbers.{tail-clear, with-with, length-with, counter-with, tail-with, head-with}
+-- how many numbers have few one bits, by Pascal's rule
+pub use Rattle.registers.proofs.Total.{countBelow, below-same, below-none, below-split, fewOnes, fewIn, few-above, few-in, total}
 -- there is at most one n-th smallest permitted counter
-pub use Rattle.registers.proofs.Order.{nth-unique}
-use mathlib.Core.Logic.{inl, inr}
+pub use Rattle.registers.proofs.Order.{passes, fails, nth-unique}
+use mathlib.Core.Path.{_≡_}
+use mathlib.Core.Bool.{Bool}
 use Prim.Native.Nat.{ℕ, _≤_}
 use native.Mathlib.Omega.{arith}
-use Rattle.registers.specs.Counters.{Nth, permittedTo, lastCounter, counterTotal}
-use Rattle.registers.specs.Machine.{Device, State}
-use Rattle.registers.specs.Rule.{Valid}
-use Rattle.registers.specs.Progress.{Follows}
-use Rattle.registers.proofs.Order.{count-lt, nth-below}
-use Rattle.registers.proofs.Total.{total, count-most}
+use Rattle.lent.specs.Refusals.{badRecord}
+use Rattle.lent.specs.Result.{refused}
+use Rattle.registers.specs.Counters.{counterPermitted, countTo, Nth, lastCounter, counterTotal}
+use Rattle.registers.specs.Device.{Device}
+use Rattle.registers.specs.Machine.{zeroState}
+use Rattle.registers.specs.Calls.{nextKey}
+use Rattle.registers.proofs.Counting.{count-lt}
+use Rattle.registers.proofs.Order.{nth-below}
+use Rattle.registers.proofs.Total.{count-most}
 
 -- each n from 1 to 1,048,575 has an n-th smallest permitted counter, which is one number by nth-unique, and no other n has one
 pub nth-exists : (n : ℕ) → 1 ≤ n → n ≤ counterTotal → (c : ℕ) × Nth n c
 nth-exists n p h = nth-below lastCounter n p (omega (arith, total))
 
 pub nth-range : (n c : ℕ) → Nth n c → (1 ≤ n) × (n ≤ counterTotal)
-unfolding permittedTo
-nth-range n c x = (omega (arith, count-lt 0 c (x .permitted .from-one) (x .permitted)), omega (arith, count-most c (x .permitted)))
+unfolding countTo
+nth-range n c x =
+    (omega (arith, count-lt counterPermitted 0 c (x .permitted .from-one) (passes (x .permitted))), omega (arith, count-most c (x .permitted)))
 
--- a state that follows the rule hangs together
-pub follows-valid : {K G : Type 0} (device : Device K G) (initial : K) (serial n : ℕ) (s : State K) → Follows device initial serial n s → Valid device s
-follows-valid device initial serial n s (inl ready) = inl (ready .running)
-follows-valid device initial serial n s (inr finished) = inr (finished .stopped)
+-- the record of a refused loading is 11
+pub zero-refused : {K : Type 0} (device : Device K) (enough : Bool) → nextKey device (zeroState device) enough ≡ refused badRecord
+zero-refused device enough = next-invalid device (zeroState device) enough (zero-invalid device)

@@ -1,4 +1,5 @@
 pub mod Bits
+pub mod Counting
 pub mod Order
 pub mod Total
 pub mod Keys
@@ -6,6 +7,14 @@ pub mod Filling
 pub mod Places
 pub mod Validity
 pub mod Spent
+pub mod SerialNumbers
+pub mod Lawful
+pub mod Hosts
+pub mod Halves
 pub mod Calls
+pub mod Progress
 pub mod Traces
+pub mod States
+pub mod Theorem
+pub mod Records
 pub mod Laws

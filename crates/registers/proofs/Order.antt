@@ -1,62 +1,45 @@
 -- The permitted counters in order: their count, the next one, the last one, the n-th smallest.
 use mathlib.Core.Path.{_≡_, refl, sym, ap, _∙_, subst}
 use mathlib.Core.Logic.{if-pos, if-neg, by-cases}
-use Prim.Native.Nat.{ℕ, zero, suc, _+_, _-_, _*_, _/_, _^_, _≤_, _<_}
-use native.Mathlib.Nat.{not-suc-le-zero, zero-lt-suc, add-zero, add-mul, le-refl}
-use native.Mathlib.Decide.{decLe, decLt, le-ind}
+use mathlib.Core.Bool.{true, false, false≢true}
+use Prim.Native.Nat.{ℕ, suc, _+_, _-_, _*_, _/_, _^_, _≤_, _<_}
+use native.Mathlib.Nat.{zero-lt-suc, add-mul, le-refl}
+use native.Mathlib.Decide.{decLe, decLt}
 use native.Mathlib.Numerals.{add-one}
 use native.Mathlib.Omega.{arith}
 use borrow.Author.Tests.{lt-ltb, le-ltb}
+use lib.Dec.{lit<, lit≤}
 use lib.Pow.{pow-pos, pow-mono, shr-lt, shl-shr}
 use lib.Count.{ones, ones-cat, ones-ones, ones-le}
-use Rattle.registers.specs.Counters.{Permitted, permitted?, permittedTo, Nth, lastCounter, lowestPlace, nextAfter, nextCounter}
+use Rattle.registers.specs.Counters.{Permitted, permitted?, counterPermitted, permittedTo, Nth, lastCounter, lowestPlace, nextAfter, nextCounter}
+use Rattle.registers.proofs.Counting.{count-hit, count-gap, count-unique, count-below}
 use Rattle.registers.proofs.Bits.{Lowest, lowest, place-lt, ones-pos, ones-odd, ones-shl, ones-suc, twice}
 
 -- ---- the count
 
--- a permitted counter is counted, any other number is not
-pub count-hit : (c : ℕ) → Permitted (suc c) → permittedTo (suc c) ≡ suc (permittedTo c)
-unfolding permittedTo
-count-hit c ok = ap (λ (x : ℕ). permittedTo c + x) (if-pos (permitted? (suc c)) ok 1 0) ∙ add-one (permittedTo c)
+-- a permitted counter passes the test, any other number does not
+pub passes : {c : ℕ} → Permitted c → counterPermitted c ≡ true
+passes {c} ok = if-pos (permitted? c) ok true false
 
-pub count-miss : (c : ℕ) → ¬ Permitted (suc c) → permittedTo (suc c) ≡ permittedTo c
-unfolding permittedTo
-count-miss c bad = ap (λ (x : ℕ). permittedTo c + x) (if-neg (permitted? (suc c)) bad 1 0) ∙ add-zero (permittedTo c)
+pub fails : {c : ℕ} → ¬ Permitted c → counterPermitted c ≡ false
+fails {c} bad = if-neg (permitted? c) bad true false
 
--- where none is permitted after a and up to b, the count stays
-pub count-gap : (a b : ℕ) → a ≤ b → ((x : ℕ) → a < x → x ≤ b → ¬ Permitted x) → permittedTo b ≡ permittedTo a
-count-gap a = le-ind (λ (b : ℕ). ((x : ℕ) → a < x → x ≤ b → ¬ Permitted x) → permittedTo b ≡ permittedTo a) (λ none. refl)
-    (λ b h ih none. count-miss b (none (suc b) (omega arith) (le-refl (suc b))) ∙ ih (λ x p q. none x p (omega arith)))
-
--- the count never falls
-pub count-mono : (a b : ℕ) → a ≤ b → permittedTo a ≤ permittedTo b
-unfolding permittedTo
-count-mono a = le-ind (λ (b : ℕ). permittedTo a ≤ permittedTo b) (le-refl (permittedTo a)) (λ b h ih. omega arith)
-
--- any number below a permitted counter has a lower count
-pub count-lt : (a b : ℕ) → a < b → Permitted b → permittedTo a < permittedTo b
-count-lt a zero h ok = absurd (not-suc-le-zero h)
-count-lt a (suc b) h ok = omega (arith, count-hit b ok, count-mono a b (omega arith))
-
--- ---- the n-th smallest
+passed : (c : ℕ) → counterPermitted c ≡ true → Permitted c
+passed c e = by-cases (permitted? c) (λ ok. ok) (λ bad. absurd (false≢true (sym (fails bad) ∙ e)))
 
 -- there is at most one n-th smallest
 pub nth-unique : (n c d : ℕ) → Nth n c → Nth n d → c ≡ d
-nth-unique n c d x y =
-    by-cases (decLt c d) (λ h. absurd (omega (arith, count-lt c d h (y .permitted))))
-    (λ h. by-cases (decLt d c) (λ q. absurd (omega (arith, count-lt d c q (x .permitted)))) (λ q. omega arith))
+nth-unique n c d x y = count-unique counterPermitted c d (passes (x .permitted)) (passes (y .permitted)) (x .number ∙ sym (y .number))
 
--- the count grows by ones, so it comes by each number
+-- each n up to the count of x has one
 pub nth-below : (x n : ℕ) → 1 ≤ n → n ≤ permittedTo x → (c : ℕ) × Nth n c
-unfolding permittedTo
-nth-below zero n p q = absurd (omega arith)
-nth-below (suc x) n p q =
-    by-cases (decLe n (permittedTo x)) (λ h. nth-below x n p h)
-    (λ h.
-    by-cases (permitted? (suc x)) (λ ok. (suc x, record { permitted = ok; number = omega (arith, count-hit x ok) }))
-    (λ bad. absurd (omega (arith, count-miss x bad))))
+nth-below x n p q = let h = count-below counterPermitted x n p q in (h .0, record { permitted = passed (h .0) (h .1); number = h .2 })
 
--- ---- the last counter
+-- ---- the first and the last counter
+
+pub one-permitted : Permitted 1
+unfolding ones
+one-permitted = record { from-one = le-refl 1; fits = lit< tt; few = lit≤ tt }
 
 -- it has the ten highest of the 21 bits; a larger number of 21 bits has all of these and one more
 pub permitted-le : (c : ℕ) → Permitted c → c ≤ lastCounter
@@ -141,6 +124,15 @@ next-permitted c ok h =
       none-between = λ x p q. absurd (omega arith);
     }))
     (λ many. subst (λ (d : ℕ). SmallestAbove c d) (sym (next-full c (omega arith))) (full-next c ok h (omega arith)))
+
+-- and it has the next number
+pub next-count : (c : ℕ) → Permitted c → c < lastCounter → permittedTo (nextAfter c) ≡ suc (permittedTo c)
+next-count c ok h =
+    let n = next-permitted c ok h in
+    let d = nextAfter c in
+    let e : suc (d - 1) ≡ d = omega (arith, n .above) in
+    ap permittedTo (sym e) ∙ count-hit counterPermitted (d - 1) (passes (subst Permitted (sym e) (n .permitted)))
+    ∙ ap suc (count-gap counterPermitted c (d - 1) (omega (arith, n .above)) (λ x p q. fails (n .none-between x p (omega (arith, n .above)))))
 
 -- up to the last counter the next one is the rule's, and after it there is none
 pub next-on : (c : ℕ) → c < lastCounter → nextCounter c ≡ nextAfter c

@@ -1,29 +1,29 @@
 -- One key given out: what the registers hold afterwards.
 use mathlib.Core.Path.{_≡_, refl, sym, ap, _∙_}
-use mathlib.Core.Logic.{by-cases}
+use mathlib.Core.Logic.{inl, inr, by-cases}
 use mathlib.Core.Bool.{true, false}
 use mathlib.Core.List.{List}
 use Prim.Native.Nat.{ℕ, _-_, _≤_, _<_}
 use native.Mathlib.Decide.{decLt}
 use native.Mathlib.Omega.{arith}
-use borrow.Author.Tests.{lt-ltb, le-ltb, ne-eqb}
+use borrow.Author.Tests.{lt-ltb, le-ltb}
 use lib.ListN.{length, getD, length-set, length-replicate, getD-replicate}
 use lib.Seq.{getD-set-same, getD-set-other}
 use lib.Count.{ones}
-use Rattle.lent.specs.Refusals as refusals
-use Rattle.lent.specs.Result.{done, refused}
-use Rattle.registers.specs.Counters.{bit, Permitted, lastCounter, lowestPlace, nextAfter, nextCounter}
+use Rattle.registers.specs.Counters.{bit, Permitted, lastCounter, lowestPlace, nextAfter}
+use Rattle.registers.specs.SerialNumber.{clearedTail}
 use Rattle.registers.specs.RegisterKey.{registerKey}
-use Rattle.registers.specs.Machine.{Device, State, keyAt, stepped, readyKey, emptied, fill, renewed, moved, ended, spent, outcome, after}
-use Rattle.registers.specs.Rule.{label, Running, Stopped}
+use Rattle.registers.specs.Device.{Device}
+use Rattle.registers.specs.Machine.{State, keyAt, noKeys, stepped, emptied, fill, filledMask, positionAt, positionAfter, stateIn, renewed, spent}
+use Rattle.registers.specs.Rule.{label, Valid}
 use Rattle.registers.proofs.Bits.{place-lt}
 use Rattle.registers.proofs.Order.{next-permitted, next-on, next-none}
 use Rattle.registers.proofs.Keys.{key-step}
 use Rattle.registers.proofs.Filling.{length-fill, fill-below, fill-above}
 use Rattle.registers.proofs.Places.{Says, is-filled, is-bare, says, mask-bit, Change, new-key, stays-empty, goes-empty, keeps, change}
-use Rattle.registers.proofs.Validity.{running-made, stopped-made}
+use Rattle.registers.proofs.Validity.{mask-zero, not-none, runs-counted, checked-valid}
 
-module _ {K G : Type 0} (device : Device K G) where
+module _ {K : Type 0} (device : Device K) where
   -- the one-way step, and what an empty register holds
   abbrev F : K → ℕ → K
   F = device .oneWay
@@ -123,63 +123,72 @@ module _ {K G : Type 0} (device : Device K G) where
 
   -- ---- the state
 
-  -- by the counter that is next
-  pub spent-next : (s : State K) → ¬ (nextCounter (s .counter) ≡ 0) → spent device s ≡ moved device s (nextCounter (s .counter))
-  unfolding spent
-  spent-next s h = rw (ne-eqb (nextCounter (s .counter)) 0 h) refl
+  -- the state with a counter to be given out next, and the exhausted one
+  abbrev pub moved : State K → ℕ → State K
+  moved s next =
+      stateIn (renewed device (s .keys) (clearedTail (s .serial)) (s .counter)) (s .serial)
+      (record { counter = next; filled = filledMask next; exhausted = false })
 
-  pub spent-none : (s : State K) → nextCounter (s .counter) ≡ 0 → spent device s ≡ ended device s
-  unfolding spent
-  spent-none s e = rw e refl
-
-  module _ (s : State K) (run : Running device s) where
-    abbrev c : ℕ
-    c = s .counter
-
-    abbrev ok : Permitted c
-    ok = run .permitted
-
-    -- the rule by the bits of c - 1
-    was-clear : (b : ℕ) → b < 21 → bit (c - 1) b ≡ 1 → keyAt device s b ≡ none
-    was-clear b h e = go (says c (ok .from-one) (ok .fits) b)
-      where
-        go : Says c b → keyAt device s b ≡ none
-        go (is-filled f z t) = absurd (omega arith)
-        go (is-bare f z) = run .bare b h f .zeros
-
-    -- whatever stands in the filled registers
-    pub moved-running : c < lastCounter → Running device (moved device s (nextAfter c))
-    moved-running h =
-        let d = next-permitted c ok h .permitted in
-        running-made device (moved device s (nextAfter c)) refl d refl
-        (λ b l e. renewed-clear (s .keys) (s .serial) c ok (run .size) was-clear b l (omega (arith, mask-bit (nextAfter c) (d .from-one) (d .fits) b l)))
-        (length-renewed (s .keys) (s .serial) c ok (run .size))
-
-  -- the exhausted state is in order
-  pub ended-stopped : (s : State K) → Stopped device (ended device s)
-  ended-stopped s = stopped-made device (ended device s) refl refl refl (λ b h e. getD-replicate 21 b none none h) (length-replicate 21 none)
+  abbrev pub ended : State K → State K
+  ended s = stateIn (noKeys device) (s .serial) (record { counter = 0; filled = 0; exhausted = true })
 
   -- by the counter that was given out
-  pub spent-on : (s : State K) → Permitted (s .counter) → s .counter < lastCounter → spent device s ≡ moved device s (nextAfter (s .counter))
-  spent-on s ok h =
-      let e = next-on (s .counter) h in
-      spent-next s (λ z. omega (arith, next-permitted (s .counter) ok h .above)) ∙ ap (moved device s) e
+  pub spent-on : (s : State K) → Permitted (s .counter) → s .counter < lastCounter → spent device s ≡ moved s (nextAfter (s .counter))
+  unfolding spent positionAfter positionAt
+  spent-on s ok h = rw (next-on (s .counter) h, not-none (nextAfter (s .counter)) (next-permitted (s .counter) ok h .permitted))
 
-  pub spent-over : (s : State K) → lastCounter ≤ s .counter → spent device s ≡ ended device s
-  spent-over s h = spent-none s (next-none (s .counter) h)
+  pub spent-over : (s : State K) → lastCounter ≤ s .counter → spent device s ≡ ended s
+  unfolding spent positionAfter positionAt
+  spent-over s h = rw (next-none (s .counter) h, mask-zero)
 
-  -- ---- a call, by its three cases
+  -- by the position that comes after it
+  pub spent-ends : (s : State K) → positionAfter (s .counter) .exhausted ≡ true → spent device s ≡ stateIn (noKeys device) (s .serial) (positionAfter (s .counter))
+  unfolding spent
+  spent-ends s e = rw e
 
-  module _ (s : State K) (room : ℕ) where
-    pub call-over : s .exhausted ≡ true → (outcome device s room ≡ refused refusals.exhausted) × (after device s room ≡ s)
-    unfolding outcome after
-    call-over e = (rw e refl, rw e refl)
+  pub spent-goes-on : (s : State K) → positionAfter (s .counter) .exhausted ≡ false
+      → spent device s ≡ stateIn (renewed device (s .keys) (clearedTail (s .serial)) (s .counter)) (s .serial) (positionAfter (s .counter))
+  unfolding spent
+  spent-goes-on s e = rw e
 
-    pub call-short : s .exhausted ≡ false → room < device .bytes → (outcome device s room ≡ refused refusals.shortBuffer) × (after device s room ≡ s)
-    unfolding outcome after
-    call-short e h = (rw (e, lt-ltb room (device .bytes) h) refl, rw (e, lt-ltb room (device .bytes) h) refl)
+  -- the state after a key of any valid state that is not exhausted is valid, whatever stands in its filled registers
+  module _ (s : State K) (v : Valid device s) (runs : s .exhausted ≡ false) where
+    abbrev counter : ℕ
+    counter = s .counter
 
-    pub call-full : s .exhausted ≡ false → device .bytes ≤ room
-        → (outcome device s room ≡ done (device .give (readyKey device s) (s .counter))) × (after device s room ≡ spent device s)
-    unfolding outcome after
-    call-full e h = (rw (e, le-ltb room (device .bytes) h) refl, rw (e, le-ltb room (device .bytes) h) refl)
+    abbrev permitted : Permitted counter
+    permitted = runs-counted (v .counted) runs
+
+    -- the rule by the bits of the number before the counter
+    was-clear : (b : ℕ) → b < 21 → bit (counter - 1) b ≡ 1 → keyAt device s b ≡ none
+    was-clear b h e = go (says counter (permitted .from-one) (permitted .fits) b)
+      where
+        go : Says counter b → keyAt device s b ≡ none
+        go (is-filled f z t) = absurd (omega arith)
+        go (is-bare f z) = v .bare b h (λ g. f (g .1)) .zeros
+
+    pub moved-valid : counter < lastCounter → Valid device (moved s (nextAfter counter))
+    moved-valid h =
+        let d = next-permitted counter permitted h .permitted in
+        checked-valid device (moved s (nextAfter counter)) (record {
+          serial-size = v .serial-size;
+          clear = v .clear;
+          size = length-renewed (s .keys) (clearedTail (s .serial)) counter permitted (v .size);
+          order = record { counted = inl (refl, d); mask = refl };
+          empties = λ b l e.
+              renewed-clear (s .keys) (clearedTail (s .serial)) counter permitted (v .size) was-clear b l
+              (omega (arith, mask-bit (nextAfter counter) (d .from-one) (d .fits) b l));
+        })
+
+    pub ended-valid : Valid device (ended s)
+    ended-valid = checked-valid device (ended s) (record {
+      serial-size = v .serial-size;
+      clear = v .clear;
+      size = length-replicate 21 none;
+      order = record { counted = inr (refl, refl); mask = sym mask-zero };
+      empties = λ b h e. getD-replicate 21 b none none h;
+    })
+
+    pub spent-valid : Valid device (spent device s)
+    spent-valid =
+        by-cases (decLt counter lastCounter) (λ h. rw (spent-on s permitted h) (moved-valid h)) (λ h. rw (spent-over s (omega arith)) ended-valid)

@@ -1,97 +1,104 @@
--- How many counters are permitted. The numbers below 2 ^ w with fewer than m one bits are counted by Pascal's rule on w.
+-- How many numbers have few one bits, by Pascal's rule, and so how many counters are permitted.
+use borrow.Author.Tests.{lt-ltb, le-ltb}
 use mathlib.Core.Path.{_≡_, refl, sym, ap, ap₂, _∙_}
 use mathlib.Core.Logic.{by-cases}
-use mathlib.Core.List.{List, [], _∷_}
-use Prim.Native.Nat.{ℕ, zero, suc, _+_, _-_, _*_, _^_, _≤_, _<_, zero-le}
-use native.Mathlib.Nat.{zero-lt-suc, pow-suc}
+use mathlib.Core.Bool.{Bool, false}
+use Prim.Native.Nat.{ℕ, zero, suc, _+_, _-_, _^_, _≤_, _<_, zero-le}
+use native.Mathlib.Nat.{zero-lt-suc, le-refl, pow-suc, add-zero, add-suc, one-mul}
 use native.Mathlib.Decide.{decLt}
-use native.Mathlib.Numerals.{add-one}
+use native.Mathlib.Numerals.{one-add}
 use native.Mathlib.Omega.{arith}
-use borrow.Author.Tests.{lt-ltb, le-ltb}
 use lib.Dec.{ltb, leb·suc-suc, lit<, lit≤}
 use lib.Pow.{suc-ones}
-use lib.ListN.{replicate, getD}
-use lib.Count.{ones}
+use lib.Count.{ones, ones-cat}
 use Rattle.lent.specs.Choice.{pick}
-use Rattle.registers.specs.Counters.{Permitted, permittedTo, lastCounter, counterTotal}
-use Rattle.registers.proofs.Bits.{ones-odd, ones-shl}
-use Rattle.registers.proofs.Order.{count-hit, count-miss, count-gap, count-mono, permitted-le}
+use Rattle.registers.specs.Counters.{Permitted, counterPermitted, countTo, permittedTo, lastCounter, counterTotal}
+use Rattle.registers.proofs.Counting.{count-hit, count-miss, count-gap, count-mono}
+use Rattle.registers.proofs.Order.{passes, fails, permitted-le}
 
--- how many of 0, .., x - 1 have fewer than m one bits
-fewer : ℕ → ℕ → ℕ
-fewer m zero = 0
-fewer m (suc x) = fewer m x + pick (ltb (ones x) m) 1 0
+-- ---- the numbers from 0 on
 
-fewer-zero : (x : ℕ) → fewer 0 x ≡ 0
-unfolding fewer
-fewer-zero zero = refl
-fewer-zero (suc x) = rw (le-ltb (ones x) 0 zero-le) (omega (arith, fewer-zero x))
+-- how many of 0, .., x - 1 pass the test
+unfoldable pub countBelow : (ℕ → Bool) → ℕ → ℕ
+countBelow test zero = 0
+countBelow test (suc x) = countBelow test x + pick (test x) 1 0
 
--- an even number has the one bits of its half, an odd one has one more
-fewer-double : (m x : ℕ) → fewer (suc m) (x * 2) ≡ fewer m x + fewer (suc m) x
-unfolding fewer
-fewer-double m zero = refl
-fewer-double m (suc x) =
-    let next : suc x * 2 ≡ suc (suc (x * 2)) = omega arith in
-    let odd : ones (suc (x * 2)) ≡ suc (ones x) = ap ones (sym (add-one (x * 2))) ∙ ones-odd x ∙ add-one (ones x) in
-    rw (next, fewer, fewer, ones-shl x 1, odd, leb·suc-suc (suc (ones x)) m) (omega (arith, fewer-double m x))
+pub below-same : (p q : ℕ → Bool) (n : ℕ) → ((y : ℕ) → y < n → p y ≡ q y) → countBelow p n ≡ countBelow q n
+unfolding countBelow
+below-same p q zero h = refl
+below-same p q (suc n) h =
+    ap₂ (λ (x : ℕ) (t : Bool). x + pick t 1 0) (below-same p q n (λ y l. h y (omega arith))) (h n (le-refl (suc n)))
 
--- Pascal's rule on a row: each entry and the one before it, x before the first
-sums : ℕ → List ℕ → List ℕ
-sums x [] = []
-sums x (y ∷ ys) = (x + y) ∷ sums y ys
+pub below-none : (p : ℕ → Bool) (n : ℕ) → ((y : ℕ) → y < n → p y ≡ false) → countBelow p n ≡ 0
+unfolding countBelow
+below-none p zero h = refl
+below-none p (suc n) h = rw (h n (le-refl (suc n)), below-none p n (λ y l. h y (omega arith)))
 
--- row w: its entry m, of k, is how many numbers below 2 ^ w have at most m one bits
-row : ℕ → ℕ → List ℕ
-row k zero = replicate k 1
-row k (suc w) = sums 0 (row k w)
+pub below-split : (p : ℕ → Bool) (a n : ℕ) → countBelow p (a + n) ≡ countBelow p a + countBelow (λ y. p (a + y)) n
+unfolding countBelow
+below-split p a zero = ap (countBelow p) (add-zero a) ∙ sym (add-zero (countBelow p a))
+below-split p a (suc n) = ap (countBelow p) (add-suc a n) ∙ omega (arith, below-split p a n)
 
--- how many of 0, .., x - 1 have fewer than m + 1, .., m + k one bits
-counts : ℕ → ℕ → ℕ → List ℕ
-counts m zero x = []
-counts m (suc k) x = fewer (suc m) x ∷ counts (suc m) k x
+-- ---- few one bits
 
-sums-counts : (m k x : ℕ) → sums (fewer m x) (counts m k x) ≡ counts m k (x * 2)
-unfolding sums counts
-sums-counts m zero x = refl
-sums-counts m (suc k) x = ap₂ (λ (y : ℕ) (ys : List ℕ). y ∷ ys) (sym (fewer-double m x)) (sums-counts (suc m) k x)
+-- x has fewer than m one bits
+abbrev pub fewOnes : ℕ → ℕ → Bool
+fewOnes m x = ltb (ones x) m
 
-counts-one : (m k : ℕ) → counts m k 1 ≡ replicate k 1
-unfolding counts fewer ones
-counts-one m zero = refl
-counts-one m (suc k) = rw (lt-ltb 0 (suc m) (zero-lt-suc m)) (ap (λ (ys : List ℕ). 1 ∷ ys) (counts-one (suc m) k))
+-- how many numbers below 2 ^ w have fewer than m one bits, by Pascal's rule
+unfoldable pub fewIn : ℕ → ℕ → ℕ
+fewIn w zero = 0
+fewIn zero (suc m) = 1
+fewIn (suc w) (suc m) = fewIn w (suc m) + fewIn w m
 
-rows : (k w : ℕ) → row k w ≡ counts 0 k (2 ^ w)
-unfolding row
-rows k zero = sym (counts-one 0 k)
-rows k (suc w) =
-    ap (sums 0) (rows k w) ∙ ap (λ (x : ℕ). sums x (counts 0 k (2 ^ w))) (sym (fewer-zero (2 ^ w)))
-    ∙ sums-counts 0 k (2 ^ w) ∙ ap (counts 0 k) (sym (pow-suc 2 w))
+-- bit w takes one from m
+pub few-above : (w m n : ℕ) → n ≤ 2 ^ w → countBelow (λ y. fewOnes (suc m) (2 ^ w + y)) n ≡ countBelow (fewOnes m) n
+unfolding ones
+few-above w m n h =
+    below-same _ _ n
+    (λ y l.
+    let top : ones (2 ^ w + y) ≡ suc (ones y) = ap (λ (x : ℕ). ones (x + y)) (sym (one-mul (2 ^ w))) ∙ ones-cat w 1 y (omega arith) ∙ one-add (ones y) in
+    ap (λ (x : ℕ). ltb x (suc m)) top ∙ leb·suc-suc (suc (ones y)) m)
+
+few-one : (m : ℕ) → countBelow (fewOnes (suc m)) 1 ≡ 1
+unfolding countBelow ones
+few-one m = rw (lt-ltb 0 (suc m) (zero-lt-suc m)) refl
+
+pub few-in : (w m : ℕ) → countBelow (fewOnes m) (2 ^ w) ≡ fewIn w m
+unfolding fewIn
+few-in w zero = below-none (fewOnes 0) (2 ^ w) (λ y l. le-ltb (ones y) 0 zero-le)
+few-in zero (suc m) = few-one m
+few-in (suc w) (suc m) =
+    let double : 2 ^ suc w ≡ 2 ^ w + 2 ^ w = omega (arith, pow-suc 2 w) in
+    ap (countBelow (fewOnes (suc m))) double ∙ below-split (fewOnes (suc m)) (2 ^ w) (2 ^ w)
+    ∙ ap₂ (λ (x y : ℕ). x + y) (few-in w (suc m)) (few-above w m (2 ^ w) (le-refl (2 ^ w)) ∙ few-in w m)
+
+-- ---- permitted counters
 
 -- 0 has no one bit and is not permitted
-count-fewer : (c : ℕ) → c < 2 ^ 21 → suc (permittedTo c) ≡ fewer 11 (suc c)
-unfolding permittedTo fewer ones
-count-fewer zero h = refl
-count-fewer (suc c) h =
+count-few : (c : ℕ) → c < 2 ^ 21 → suc (permittedTo c) ≡ countBelow (fewOnes 11) (suc c)
+unfolding countTo countBelow ones
+count-few zero h = refl
+count-few (suc c) h =
     by-cases (decLt (ones (suc c)) 11)
     (λ q.
     let ok : Permitted (suc c) = record { from-one = zero-lt-suc c; fits = h; few = omega arith } in
-    rw (lt-ltb (ones (suc c)) 11 q) (omega (arith, count-fewer c (omega arith), count-hit c ok)))
-    (λ q. rw (le-ltb (ones (suc c)) 11 (omega arith)) (omega (arith, count-fewer c (omega arith), count-miss c (λ ok. omega (arith, ok .few)))))
+    rw (lt-ltb (ones (suc c)) 11 q) (omega (arith, count-few c (omega arith), count-hit counterPermitted c (passes ok))))
+    (λ q.
+    rw (le-ltb (ones (suc c)) 11 (omega arith))
+    (omega (arith, count-few c (omega arith), count-miss counterPermitted c (fails (λ ok. omega (arith, ok .few))))))
 
-eleventh : (x : ℕ) → getD (counts 0 11 x) 10 0 ≡ fewer 11 x
-unfolding counts
-eleventh x = refl
+all-few : fewIn 21 11 ≡ 1_048_576
+unfolding fewIn
+all-few = refl
 
 -- none is permitted above the last counter
 pub total : permittedTo lastCounter ≡ counterTotal
-unfolding row sums
 total =
-    let all : 1048576 ≡ fewer 11 (2 ^ 21) = ap (λ (ys : List ℕ). getD ys 10 0) (rows 11 21) ∙ eleventh (2 ^ 21) in
     let last : permittedTo (2 ^ 21 - 1) ≡ permittedTo lastCounter =
-    count-gap lastCounter (2 ^ 21 - 1) (lit≤ tt) (λ x p q ok. omega (arith, permitted-le x ok)) in
-    omega (arith, count-fewer (2 ^ 21 - 1) (lit< tt), ap (fewer 11) (suc-ones 21))
+    count-gap counterPermitted lastCounter (2 ^ 21 - 1) (lit≤ tt) (λ x p q. fails (λ ok. omega (arith, permitted-le x ok))) in
+    omega (arith, count-few (2 ^ 21 - 1) (lit< tt), ap (countBelow (fewOnes 11)) (suc-ones 21), few-in 21 11, all-few)
 
 -- a permitted counter's number is at most that
 pub count-most : (c : ℕ) → Permitted c → permittedTo c ≤ counterTotal
-count-most c ok = omega (arith, count-mono c lastCounter (permitted-le c ok), total)
+count-most c ok = omega (arith, count-mono counterPermitted c lastCounter (permitted-le c ok), total)

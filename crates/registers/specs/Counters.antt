@@ -1,6 +1,7 @@
 -- The counters that a terminal gives out, and their order (01, Terminal keys).
 use mathlib.Core.Path.{_≡_}
 use mathlib.Core.Logic.{ite, Dec·and}
+use mathlib.Core.Bool.{Bool, true, false}
 use Prim.Native.Nat.{ℕ, zero, suc, _+_, _/_, _%_, _^_, _≤_, _<_}
 use native.Mathlib.Decide.{decLe, decLt, map-dec}
 use lib.Dec.{ltb}
@@ -23,10 +24,17 @@ permitted? c =
     map-dec (λ h. record { from-one = h .0; fits = h .1 .0; few = h .1 .1 }) (λ p. (p .from-one, (p .fits, p .few)))
     (Dec·and (decLe 1 c) (Dec·and (decLt c (2 ^ 21)) (decLe (ones c) 10)))
 
+abbrev pub counterPermitted : ℕ → Bool
+counterPermitted c = ite (permitted? c) true false
+
+-- how many of 1, .., x pass the test
+unfoldable pub countTo : (ℕ → Bool) → ℕ → ℕ
+countTo test zero = 0
+countTo test (suc x) = countTo test x + pick (test (suc x)) 1 0
+
 -- how many permitted counters lie from 1 up to c
-unfoldable pub permittedTo : ℕ → ℕ
-permittedTo zero = 0
-permittedTo (suc c) = permittedTo c + ite (permitted? (suc c)) 1 0
+abbrev pub permittedTo : ℕ → ℕ
+permittedTo c = countTo counterPermitted c
 
 -- c is the n-th smallest permitted counter
 pub record Nth (n c : ℕ) : Type 0 where

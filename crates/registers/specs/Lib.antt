@@ -1,7 +1,13 @@
 pub mod Counters
+pub mod SerialNumber
 pub mod RegisterKey
+pub mod Device
 pub mod Machine
 pub mod Rule
-pub mod Progress
+pub mod Deciding
+pub mod Host
+pub mod Calls
 pub mod Trace
+pub mod Demand
+pub mod Records
 pub mod Private

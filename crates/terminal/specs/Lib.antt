@@ -1,3 +1,1 @@
-pub mod Record
-pub mod Promises
-pub mod Demand
+pub mod View

@@ -1,13 +1,15 @@
 // The terminal's call for its next key.
 use crate::filling::renewed;
 use crate::state::Terminal;
+use crate::state::placed;
 use crate::state::valid;
 ghost use mathlib.Core.Path.{_≡_};
 ghost use lib.ListN.{replicate};
-ghost use Rattle.registers.specs.Machine.{readyKey};
-ghost use Rattle.registers.specs.Rule.{Running};
-ghost use Rattle.terminal.specs.Record.{dukpt, view, afterKey};
-ghost use Rattle.terminal.specs.Promises.{Next};
+ghost use Rattle.registers.specs.Counters.{Permitted};
+ghost use Rattle.registers.specs.Machine.{readyKey, spent};
+ghost use Rattle.registers.specs.Calls.{Next};
+ghost use Rattle.host.specs.SingleLength.{singleLength};
+ghost use Rattle.terminal.specs.View.{view};
 
 // The answer of a call for the next key: 0, the counter given out, the serial number with that counter in it, and the record after it; or the
 // refusal's number, zeros, and the record as it was.
@@ -32,8 +34,8 @@ fn refused(number: u32, t: Terminal) -> NextKey
 
 // The key of the next counter: it stands in the register of the counter's lowest one bit.
 fn ready_key(t: Terminal) -> u64
-    requires { ⌜ Running dukpt (view t) ⌝ }
-    ensures { λ r. ⌜ r ≡ readyKey dukpt (view t) ⌝ }
+    requires { ⌜ Permitted (t .counter) ⌝ }
+    ensures { λ r. ⌜ r ≡ readyKey singleLength (view t) ⌝ }
 {
     let l = registers::lowest_place(t.counter);
     t.keys[l]
@@ -41,35 +43,23 @@ fn ready_key(t: Terminal) -> u64
 
 // The record after the key of its counter was given out.
 fn after_key(t: Terminal) -> Terminal
-    requires { ⌜ Running dukpt (view t) ⌝ }
-    ensures { λ r. ⌜ r ≡ afterKey t ⌝ }
+    requires { ⌜ Permitted (t .counter) ⌝ }
+    ensures { λ r. ⌜ view r ≡ spent singleLength (view t) ⌝ }
 {
     let old = t.keys;
     let serial = t.serial;
-    let next = registers::next_counter(t.counter);
-    if next == 0 {
-        return Terminal {
-            keys: [0u64; 21],
-            filled: 0,
-            serial,
-            counter: 0,
-            exhausted: true,
-        };
+    let position = registers::position_after(t.counter);
+    if position.exhausted {
+        return placed([0u64; 21], serial, position);
     }
-    let keys = renewed(old, host::cleared_tail(&serial), t.counter);
-    Terminal {
-        keys,
-        filled: registers::filled_mask(next),
-        serial,
-        counter: next,
-        exhausted: false,
-    }
+    let keys = renewed(old, registers::cleared_tail(&serial), t.counter);
+    placed(keys, serial, position)
 }
 
 // Gives out the next key, in the first eight bytes of `out`. Refuses with 11 if the record does not hang together, 12 if it is exhausted, 13 if
 // `out` is shorter than the key. A refusal leaves the record and `out` as they were.
 pub fn next_key(t: Terminal, out: &mut [u8]) -> NextKey
-    ensures { λ r. ⌜ Next t (now (out .entry)) r (now (out .exit)) ⌝ }
+    ensures { λ r. ⌜ Next singleLength (view t) (record { before = now (out .entry); number = r .number; counter = r .counter; serial = r .serial; left = view (r .terminal); after = now (out .exit) }) ⌝ }
 {
     if !valid(t) {
         return refused(lent::BAD_RECORD, t);
@@ -86,7 +76,7 @@ pub fn next_key(t: Terminal, out: &mut [u8]) -> NextKey
     NextKey {
         number: lent::DONE,
         counter,
-        serial: host::with_counter(&serial, counter),
+        serial: registers::with_counter(&serial, counter),
         terminal: after_key(t),
     }
 }

@@ -3,34 +3,34 @@ ghost use mathlib.Core.Path.{_≡_};
 ghost use Prim.Native.Nat.{_+_, _^_, _≤_};
 ghost use Rattle.registers.specs.Counters.{Permitted};
 ghost use Rattle.registers.specs.Machine.{fill, stepped, renewed};
-ghost use Rattle.terminal.specs.Record.{dukpt};
+ghost use Rattle.host.specs.SingleLength.{singleLength};
 
 // The first n registers filled from the key of the counter c, each by one step with its own bit set in the data; the others are kept.
-pub(crate) fn filled_from(keys: [u64; 21], n: usize, key: u64, serial: u64, c: u32) -> [u64; 21]
+pub(crate) fn filled_from(keys: [u64; 21], n: usize, key: u64, tail: u64, c: u32) -> [u64; 21]
     requires { ⌜ n ≤ 21 ⌝ }
     requires { ⌜ c + 2 ^ n ≤ 2 ^ 21 ⌝ }
-    requires { ⌜ serial + 2 ^ 21 ≤ 2 ^ 64 ⌝ }
-    ensures { λ r. ⌜ r ≡ fill n (stepped dukpt key serial c) keys ⌝ }
+    requires { ⌜ tail + 2 ^ 21 ≤ 2 ^ 64 ⌝ }
+    ensures { λ r. ⌜ r ≡ fill n (stepped singleLength key tail c) keys ⌝ }
 {
     let mut out = keys;
     let mut b: usize = 0;
     while b < n {
-        out[b] = host::one_way(key, serial + lent::wide(c + (1u32 << b)));
+        out[b] = host::one_way(key, tail + lent::wide(c + (1u32 << b)));
         b += 1;
     }
     out
 }
 
 // The registers after the key of the counter c was given out: below ten one bits those below its register are filled from it; it is emptied.
-pub(crate) fn renewed(keys: [u64; 21], serial: u64, c: u32) -> [u64; 21]
+pub(crate) fn renewed(keys: [u64; 21], tail: u64, c: u32) -> [u64; 21]
     requires { ⌜ Permitted c ⌝ }
-    requires { ⌜ serial + 2 ^ 21 ≤ 2 ^ 64 ⌝ }
-    ensures { λ r. ⌜ r ≡ renewed dukpt keys serial c ⌝ }
+    requires { ⌜ tail + 2 ^ 21 ≤ 2 ^ 64 ⌝ }
+    ensures { λ r. ⌜ r ≡ renewed singleLength keys tail c ⌝ }
 {
     let l = registers::lowest_place(c);
     if u32::count_ones(c) < 10 {
         let key = keys[l];
-        let mut few = filled_from(keys, l, key, serial, c);
+        let mut few = filled_from(keys, l, key, tail, c);
         few[l] = 0;
         return few;
     }

@@ -1,10 +1,13 @@
 // Loading a terminal.
 use crate::filling::filled_from;
 use crate::state::Terminal;
+use crate::state::placed;
 ghost use mathlib.Core.Path.{_≡_};
 ghost use Rattle.lent.specs.Refusals.{numberOf, size};
-ghost use Rattle.terminal.specs.Record.{zeroRecord};
-ghost use Rattle.terminal.specs.Promises.{Load};
+ghost use Rattle.registers.specs.Machine.{zeroState};
+ghost use Rattle.registers.specs.Calls.{Load};
+ghost use Rattle.host.specs.SingleLength.{singleLength};
+ghost use Rattle.terminal.specs.View.{view};
 
 // The answer of a loading: 0 and the record, or the refusal's number and the all-zero record.
 pub struct Loaded {
@@ -14,7 +17,7 @@ pub struct Loaded {
 
 // The refusal of a loading.
 fn refused() -> Loaded
-    ensures { λ r. ⌜ r ≡ record { number = numberOf size; terminal = zeroRecord } ⌝ }
+    ensures { λ r. ⌜ (r .number ≡ numberOf size) × (view (r .terminal) ≡ zeroState singleLength) ⌝ }
 {
     Loaded {
         number: lent::SIZE,
@@ -31,7 +34,7 @@ fn refused() -> Loaded
 // Loads a terminal with an initial key and a serial number, whose counter is cleared. Refuses with 6 if the key does not have 8 bytes or the
 // serial number 10. Counter 1 is next. A refusal answers the all-zero record.
 pub fn load(initial: &[u8], serial: &[u8]) -> Loaded
-    ensures { λ r. ⌜ Load (now (initial .entry)) (now (serial .entry)) r ⌝ }
+    ensures { λ r. ⌜ Load singleLength (now (initial .entry)) (now (serial .entry)) (r .number) (view (r .terminal)) ⌝ }
 {
     if initial.len() != 8 {
         return refused();
@@ -44,17 +47,15 @@ pub fn load(initial: &[u8], serial: &[u8]) -> Loaded
         empty,
         21,
         lent::word_of(initial),
-        host::cleared_tail(serial),
+        registers::cleared_tail(serial),
         0,
     );
     Loaded {
         number: lent::DONE,
-        terminal: Terminal {
+        terminal: placed(
             keys,
-            filled: registers::filled_mask(1),
-            serial: host::with_counter(serial, 0),
-            counter: 1,
-            exhausted: false,
-        },
+            registers::with_counter(serial, 0),
+            registers::position_at(1),
+        ),
     }
 }

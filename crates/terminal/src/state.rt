@@ -1,9 +1,13 @@
-// The terminal's state, and whether it hangs together.
+// The terminal's record, and whether it hangs together.
+use registers::Position;
 ghost use mathlib.Core.Path.{_≡_};
 ghost use mathlib.Core.Bool.{true};
 ghost use mathlib.Core.Logic.{_↔_};
-ghost use Rattle.registers.specs.Private.{Empties, Counted};
-ghost use Rattle.terminal.specs.Record.{dukpt, view, ValidRecord};
+ghost use Rattle.registers.specs.Machine.{stateIn};
+ghost use Rattle.registers.specs.Rule.{Valid};
+ghost use Rattle.registers.specs.Private.{Empties};
+ghost use Rattle.host.specs.SingleLength.{singleLength};
+ghost use Rattle.terminal.specs.View.{view};
 
 // Twenty-one registers of eight bytes, which of them are filled (bit b for register b), the serial number with its counter cleared, the
 // counter to be given out next, and whether the terminal is exhausted.
@@ -15,9 +19,22 @@ pub struct Terminal {
     pub exhausted: bool,
 }
 
+// The record with these keys and that serial number, in a position.
+pub(crate) fn placed(keys: [u64; 21], serial: [u8; 10], p: Position) -> Terminal
+    ensures { λ r. ⌜ view r ≡ stateIn keys serial p ⌝ }
+{
+    Terminal {
+        keys,
+        filled: p.filled,
+        serial,
+        counter: p.counter,
+        exhausted: p.exhausted,
+    }
+}
+
 // Whether every empty register is zero.
 fn empties(t: Terminal) -> bool
-    ensures { λ r. ⌜ (r ≡ true) ↔ Empties dukpt (view t) ⌝ }
+    ensures { λ r. ⌜ (r ≡ true) ↔ Empties singleLength (view t) ⌝ }
 {
     let mut b: usize = 0;
     while b < 21 {
@@ -31,28 +48,19 @@ fn empties(t: Terminal) -> bool
     true
 }
 
-// Whether the counter is permitted, or is 0 in an exhausted record.
-fn counted(counter: u32, exhausted: bool) -> bool
-    ensures { λ r. ⌜ (r ≡ true) ↔ Counted counter exhausted ⌝ }
-{
-    if exhausted {
-        return counter == 0;
-    }
-    registers::permitted(counter)
-}
-
 // Whether the record hangs together.
 pub(crate) fn valid(t: Terminal) -> bool
-    ensures { λ r. ⌜ (r ≡ true) ↔ ValidRecord t ⌝ }
+    ensures { λ r. ⌜ (r ≡ true) ↔ Valid singleLength (view t) ⌝ }
 {
     let serial = t.serial;
-    if host::counter_of(&serial) != 0 {
+    if registers::counter_of(&serial) != 0 {
         return false;
     }
-    if !counted(t.counter, t.exhausted) {
-        return false;
-    }
-    if t.filled != registers::filled_mask(t.counter) {
+    if !registers::in_order(Position {
+        counter: t.counter,
+        filled: t.filled,
+        exhausted: t.exhausted,
+    }) {
         return false;
     }
     empties(t)

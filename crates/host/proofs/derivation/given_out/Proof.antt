@@ -1,6 +1,6 @@
 -- `host::derivation::given_out` meets its contract.
 use mathlib.Core.Path.{refl}
-use Rattle.host.specs.Derivation.{givenOut}
+use Rattle.host.specs.SingleLength.{givenOut}
 use Rattle.host.proofs.derivation.given_out.Statement.{statement}
 use Rattle.host.proofs.derivation.given_out.Tie as tie
 

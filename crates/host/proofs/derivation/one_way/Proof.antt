@@ -1,6 +1,6 @@
 -- `host::derivation::one_way` meets its contract.
 use borrow.Author.Needs.{needs}
-use Rattle.host.specs.Derivation.{oneWay}
+use Rattle.host.specs.SingleLength.{oneWay}
 use Rattle.host.proofs.derivation.one_way.Statement.{statement}
 use Rattle.host.proofs.derivation.one_way.Tie as tie
 

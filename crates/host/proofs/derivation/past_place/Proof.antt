@@ -6,7 +6,7 @@ use Prim.Native.Nat.{ℕ, _+_, _*_, _/_, _%_, _^_, _<_}
 use native.Mathlib.Nat.{div-mul-le-self, mod-eq-of-lt}
 use native.Mathlib.Omega.{arith}
 use Rattle.registers.specs.Counters.{bit}
-use Rattle.host.specs.Derivation.{oneWay}
+use Rattle.host.specs.SingleLength.{oneWay}
 use Rattle.host.proofs.derivation.past_place.Statement.{statement}
 use Rattle.host.proofs.derivation.past_place.Tie as tie
 
@@ -21,7 +21,7 @@ returns : tie.Need-returns
 returns c =
     let a = c .before .before .before .args in
     rw (eq-eqb (bit (a .counter) (a .b)) 1 (c .before .before .if1 .taken))
-    (c .one-way .ensures ∙ ap (λ (x : ℕ). oneWay (a .key) (a .serial + x)) (c .before .wide .ensures ∙ cut (a .counter) (a .b) (omega arith) .0))
+    (c .one-way .ensures ∙ ap (λ (x : ℕ). oneWay (a .key) (a .tail + x)) (c .before .wide .ensures ∙ cut (a .counter) (a .b) (omega arith) .0))
 
 returns-2 : tie.Need-returns-2
 returns-2 c = rw (ne-eqb (bit (c .before .args .counter) (c .before .args .b)) 1 (c .if1 .left))

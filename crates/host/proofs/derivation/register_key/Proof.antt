@@ -8,33 +8,33 @@ use lib.Dec.{eqb}
 use Rattle.lent.specs.Choice.{pick}
 use Rattle.registers.specs.Counters.{bit}
 use Rattle.registers.specs.RegisterKey.{derive, registerKey}
-use Rattle.host.specs.Derivation.{oneWay}
+use Rattle.host.specs.SingleLength.{oneWay}
 use Rattle.host.proofs.derivation.register_key.Statement.{statement}
 use Rattle.host.proofs.derivation.register_key.Tie as tie
 
-module _ (serial counter : ℕ) where
+module _ (tail counter : ℕ) where
   -- the key past place b
   abbrev past : ℕ → ℕ → ℕ
-  past key b = pick (eqb (bit counter b) 1) (oneWay key (serial + counter / 2 ^ b * 2 ^ b)) key
+  past key b = pick (eqb (bit counter b) 1) (oneWay key (tail + counter / 2 ^ b * 2 ^ b)) key
 
   -- one place of the counter
-  turn : (key b : ℕ) → 0 < b → derive oneWay serial b key counter ≡ derive oneWay serial (b - 1) (past key (b - 1)) counter
+  turn : (key b : ℕ) → 0 < b → derive oneWay tail b key counter ≡ derive oneWay tail (b - 1) (past key (b - 1)) counter
   unfolding derive
   turn key zero h = absurd (omega arith)
   turn key (suc b) h = let e : suc b - 1 ≡ b = omega arith in rw e
 
   -- past the last place
-  last : (key initial b : ℕ) → b ≤ 0 → derive oneWay serial b key counter ≡ derive oneWay serial 21 initial counter
-      → key ≡ registerKey oneWay initial serial counter
+  last : (key initial b : ℕ) → b ≤ 0 → derive oneWay tail b key counter ≡ derive oneWay tail 21 initial counter
+      → key ≡ registerKey oneWay initial tail counter
   unfolding derive registerKey
   last key initial zero h e = e
   last key initial (suc b) h e = absurd (not-suc-le-zero h)
 
 abbrev Inv-loop : tie.InvT-loop
-Inv-loop initial serial counter key₀ b₀ key b = (b ≤ 21) × (derive oneWay serial b key counter ≡ derive oneWay serial 21 initial counter)
+Inv-loop initial tail counter key₀ b₀ key b = (b ≤ 21) × (derive oneWay tail b key counter ≡ derive oneWay tail 21 initial counter)
 
 abbrev μ-loop : tie.MeasureT-loop
-μ-loop initial serial counter key₀ b₀ key b = b
+μ-loop initial tail counter key₀ b₀ key b = b
 
 loop-holds : tie.Need-loop-holds Inv-loop μ-loop
 loop-holds c = (search needs, refl)
@@ -43,8 +43,8 @@ loop-again : tie.Need-loop-again Inv-loop μ-loop
 loop-again c =
     let a = c .before .before .before .args in
     let b = c .before .before .loop .b in
-    let past-it = ap (λ (k : ℕ). derive oneWay (a .serial) (b - 1) k (a .counter)) (c .past-place .ensures) in
-    (search needs, past-it ∙ sym (turn (a .serial) (a .counter) _ b (c .before .loop-test .taken)) ∙ c .before .before .loop .inv .1)
+    let past-it = ap (λ (k : ℕ). derive oneWay (a .tail) (b - 1) k (a .counter)) (c .past-place .ensures) in
+    (search needs, past-it ∙ sym (turn (a .tail) (a .counter) _ b (c .before .loop-test .taken)) ∙ c .before .before .loop .inv .1)
 
 returns : tie.Need-returns Inv-loop μ-loop
 returns c = last _ _ _ _ (c .before .loop .b) (omega arith) (c .before .loop .inv .1)

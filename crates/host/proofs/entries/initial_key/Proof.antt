@@ -5,7 +5,7 @@ use mathlib.Core.Path.{_≡_, refl, ap₂, _∙_}
 use Rattle.lent.specs.Refusals.{size, equalHalves}
 use Rattle.lent.proofs.Results.{refused-block}
 use Rattle.cipher.specs.Keys.{sameKey}
-use Rattle.host.specs.Entries.{sameHalves, initialKey}
+use Rattle.registers.specs.Host.{sameHalves, initialKey}
 use Rattle.host.proofs.entries.initial_key.Statement.{statement}
 use Rattle.host.proofs.entries.initial_key.Tie as tie
 

@@ -3,6 +3,9 @@ use borrow.Author.Needs.{needs}
 use mathlib.Core.Path.{_≡_}
 use native.Mathlib.Omega.{arith}
 use lib.ListN.{length}
+use Rattle.host.specs.SingleLength.{singleLength}
+use Rattle.host.proofs.Laws.{lawful}
+use Rattle.terminal.specs.View.{view}
 use Rattle.recordbytes.proofs.Bytes.{record-put}
 use Rattle.recordbytes.proofs.Cutting.{none, part}
 use Rattle.recordbytes.proofs.record.put_record.Statement.{statement}
@@ -21,7 +24,7 @@ returns c =
     let registers = filled .before .before .before .before in
     let known = registers .before .before .before in
     let a = known .before .before .before .args in
-    record-put (a .t) (a .bytes .now) (sizes known .0) (sizes known .1) (omega arith)
+    record-put singleLength lawful (view (a .t)) (sizes known .0) (sizes known .1) (a .bytes .now) (omega arith)
     (part (registers .put-registers .ensures)
     (part (filled .put-number .ensures)
     (part (serial .put .ensures)

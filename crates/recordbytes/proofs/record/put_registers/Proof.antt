@@ -8,13 +8,14 @@ use lib.ListN.{length, take}
 use lib.Seq.{take-all}
 use Rattle.lent.specs.Private.{Appends}
 use Rattle.lent.proofs.Appending.{nothing-appended, both-appends}
+use Rattle.host.specs.SingleLength.{singleLength}
 use Rattle.recordbytes.proofs.Bytes.{registers-snoc}
 use Rattle.recordbytes.specs.RecordBytes.{registerBytes}
 use Rattle.recordbytes.proofs.record.put_registers.Statement.{statement}
 use Rattle.recordbytes.proofs.record.put_registers.Tie as tie
 
 abbrev Inv-loop : tie.InvT-loop
-Inv-loop bytes₀ keys n₀ i₀ bytes n i = (i ≤ 21) × (length bytes ≡ length bytes₀) × Appends (registerBytes (take i keys)) bytes₀ bytes 0 n
+Inv-loop bytes₀ keys n₀ i₀ bytes n i = (i ≤ 21) × (length bytes ≡ length bytes₀) × Appends (registerBytes singleLength (take i keys)) bytes₀ bytes 0 n
 
 abbrev μ-loop : tie.MeasureT-loop
 μ-loop bytes₀ keys n₀ i₀ bytes n i = 21 - i
@@ -30,7 +31,7 @@ loop-again c =
     let keys = l .before .before .args .t1 in (
       search needs,
       search needs,
-      rw (add-one (l .loop .i), registers-snoc keys (l .loop .i) (omega arith)) (both-appends (l .loop .inv .2) (rw word at (c .before .before .put .ensures))),
+      rw (add-one (l .loop .i), registers-snoc singleLength keys (l .loop .i) (omega arith)) (both-appends (l .loop .inv .2) (rw word at (c .before .before .put .ensures))),
     )
 
 returns : tie.Need-returns Inv-loop μ-loop

@@ -1,31 +1,20 @@
 -- `recordbytes::record::registers_of` meets its contract: the registers passed are read.
 use borrow.Author.Needs.{needs}
 use mathlib.Core.Path.{_≡_, refl, sym, ap, _∙_}
-use mathlib.Core.List.{List, [], _++_, append-nil, append-assoc}
-use Prim.Native.Nat.{ℕ, suc, _+_, _-_, _*_, _≤_, _<_}
-use native.Mathlib.Numerals.{add-one}
+use mathlib.Core.List.{List, [], _++_, append-nil}
+use Prim.Native.Nat.{ℕ, _+_, _-_, _*_, _≤_}
 use native.Mathlib.Omega.{arith}
-use lib.ListN.{length, set, take, drop, length-drop}
-use lib.Seq.{take-all, take-suc-set, drop-drop}
+use lib.ListN.{length, take, drop, length-drop}
+use lib.Seq.{take-all}
 use Rattle.lent.specs.Words.{word}
+use Rattle.host.specs.SingleLength.{singleLength}
 use Rattle.recordbytes.specs.RecordBytes.{registersOf}
+use Rattle.recordbytes.proofs.Bytes.{registers-more}
 use Rattle.recordbytes.proofs.record.registers_of.Statement.{statement}
 use Rattle.recordbytes.proofs.record.registers_of.Tie as tie
 
--- one more register is read
-register-read : (s keys : List ℕ) (v i : ℕ) → i < 21 → length keys ≡ 21 → v ≡ word (drop (8 * i) s)
-    → take i keys ++ registersOf (21 - i) (drop (8 * i) s) ≡ registersOf 21 s
-    → take (i + 1) (set keys i v) ++ registersOf (21 - (i + 1)) (drop (8 * (i + 1)) s) ≡ registersOf 21 s
-unfolding registersOf
-register-read s keys v i h long ev e =
-    let n : 21 - i ≡ suc (21 - (i + 1)) = omega (arith, add-one (21 - (i + 1))) in
-    let m : 8 * (i + 1) ≡ 8 * i + 8 = omega arith in
-    let there : i < length keys = omega arith in
-    rw (m, ← drop-drop 8 (8 * i) s, ap (λ (k : ℕ). take k (set keys i v)) (add-one i), take-suc-set keys i v there, append-assoc (take i keys), ev)
-    (rw n at e)
-
 abbrev Inv-loop : tie.InvT-loop
-Inv-loop bytes keys₀ i₀ keys i = (i ≤ 21) × (length keys ≡ 21) × (take i keys ++ registersOf (21 - i) (drop (8 * i) bytes) ≡ registersOf 21 bytes)
+Inv-loop bytes keys₀ i₀ keys i = (i ≤ 21) × (length keys ≡ 21) × (take i keys ++ registersOf singleLength (21 - i) (drop (8 * i) bytes) ≡ registersOf singleLength 21 bytes)
 
 abbrev μ-loop : tie.MeasureT-loop
 μ-loop bytes keys₀ i₀ keys i = 21 - i
@@ -39,7 +28,7 @@ loop-again c =
     let s = l .before .before .args .bytes .now in
     let at = 8 * l .loop .i in
     let rest : take (length s - at) (drop at s) ≡ drop at s = take-all (length s - at) (drop at s) (omega (arith, length-drop at s)) in
-    (search needs, search needs, register-read s (l .loop .keys) _ (l .loop .i) (omega arith) (l .loop .inv .1) (c .word-of .ensures ∙ ap word rest) (l .loop .inv .2))
+    (search needs, search needs, registers-more singleLength 21 s (l .loop .keys) _ (l .loop .i) (omega arith) (l .loop .inv .1) (c .word-of .ensures ∙ ap word rest) (l .loop .inv .2))
 
 returns : tie.Need-returns Inv-loop μ-loop
 unfolding registersOf

@@ -3,7 +3,8 @@ use borrow.Author.Needs.{needs}
 use mathlib.Core.Path.{sym}
 use native.Mathlib.Omega.{arith}
 use lib.Seq.{length-take-le}
-use Rattle.recordbytes.proofs.Bytes.{terminal-parts, last-part}
+use Rattle.host.specs.SingleLength.{singleLength}
+use Rattle.recordbytes.proofs.Bytes.{state-parts, last-part}
 use Rattle.recordbytes.proofs.record.terminal_of.Statement.{statement}
 use Rattle.recordbytes.proofs.record.terminal_of.Tie as tie
 
@@ -20,7 +21,7 @@ returns c =
     let f = s .before .before in
     let k = f .before .before in
     let bytes = k .before .before .before .args .bytes .now in
-    rw (terminal-parts bytes, last-part bytes (omega arith), k .registers-of .ensures, f .number-of .ensures, s .serial-of .ensures, n .number-of2 .ensures)
+    rw (state-parts singleLength bytes, last-part singleLength bytes (omega arith), k .registers-of .ensures, f .number-of .ensures, s .serial-of .ensures, n .number-of2 .ensures)
 
 pub terminal-of-spec : {M : Type 1} → statement M
 terminal-of-spec =

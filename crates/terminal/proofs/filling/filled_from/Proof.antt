@@ -7,8 +7,7 @@ use lib.Pow.{pow-lt}
 use lib.Dec.{lit≤}
 use Rattle.registers.specs.Machine.{fill, stepped}
 use Rattle.registers.proofs.Laws.{one-shl, fill-none, fill-turn}
-use Rattle.host.specs.Derivation.{oneWay}
-use Rattle.terminal.specs.Record.{dukpt}
+use Rattle.host.specs.SingleLength.{oneWay, singleLength}
 use Rattle.terminal.proofs.filling.filled_from.Statement.{statement}
 use Rattle.terminal.proofs.filling.filled_from.Tie as tie
 
@@ -17,10 +16,10 @@ shifted : (b n c : ℕ) → b < n → n ≤ 21 → c + 2 ^ n ≤ 2 ^ 21 → (1 *
 shifted b n c h l r = (one-shl 32 b (lit≤ tt) (omega arith) .0, omega (arith, pow-lt {i = b} {j = n} h))
 
 abbrev Inv-loop : tie.InvT-loop
-Inv-loop n key serial c out₀ b₀ out b = (b ≤ n) × (out ≡ fill b (stepped dukpt key serial c) out₀)
+Inv-loop n key tail c out₀ b₀ out b = (b ≤ n) × (out ≡ fill b (stepped singleLength key tail c) out₀)
 
 abbrev μ-loop : tie.MeasureT-loop
-μ-loop n key serial c out₀ b₀ out b = n - b
+μ-loop n key tail c out₀ b₀ out b = n - b
 
 loop-holds : tie.Need-loop-holds Inv-loop μ-loop
 loop-holds c = (search needs, sym (fill-none _ _))
@@ -42,8 +41,8 @@ loop-again c =
     let l = c .before .before .before .loop in
     let bit = shifted (l .b) (a .n) (a .c) (omega arith) (k .pre .0) (k .pre .1 .0) .0 in
     let e = c .before .wide .ensures ∙ ap (λ (x : ℕ). a .c + x) bit in
-    let key = c .one-way .ensures ∙ ap (λ (x : ℕ). oneWay (a .key) (a .serial + x)) e in
-    (search needs, fill-turn (l .b) (stepped dukpt (a .key) (a .serial) (a .c)) _ _ _ (l .inv .1) key)
+    let key = c .one-way .ensures ∙ ap (λ (x : ℕ). oneWay (a .key) (a .tail + x)) e in
+    (search needs, fill-turn (l .b) (stepped singleLength (a .key) (a .tail) (a .c)) _ _ _ (l .inv .1) key)
 
 returns : tie.Need-returns Inv-loop μ-loop
 returns c = let e : c .before .loop .b ≡ c .before .before .args .n = omega arith in rw (← e) (c .before .loop .inv .1)

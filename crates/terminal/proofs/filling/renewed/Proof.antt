@@ -3,7 +3,7 @@ use borrow.Author.Needs.{needs}
 use Prim.Native.Nat.{_<_}
 use native.Mathlib.Omega.{arith}
 use Rattle.registers.proofs.Laws.{place-lt, place-room, renewed-few, renewed-full}
-use Rattle.terminal.specs.Record.{dukpt}
+use Rattle.host.specs.SingleLength.{singleLength}
 use Rattle.terminal.proofs.filling.renewed.Statement.{statement}
 use Rattle.terminal.proofs.filling.renewed.Tie as tie
 
@@ -31,7 +31,7 @@ array-write-few c = omega (arith, place (c .before .before))
 returns : tie.Need-returns
 returns c =
     let a = c .before .before .before .args in
-    rw (renewed-few dukpt (a .t1) (a .serial) (a .c) (c .before .if1 .taken), c .filled-from .ensures, c .before .before .lowest-place .ensures)
+    rw (renewed-few singleLength (a .t1) (a .tail) (a .c) (c .before .if1 .taken), c .filled-from .ensures, c .before .before .lowest-place .ensures)
 
 mul-kept : tie.Need-mul-kept
 mul-kept c = omega (arith, place (c .before))
@@ -42,7 +42,7 @@ array-write-kept c = omega (arith, place (c .before))
 returns-2 : tie.Need-returns-2
 returns-2 c =
     let a = c .before .before .args in
-    rw (renewed-full dukpt (a .t1) (a .serial) (a .c) (c .if1 .left), c .before .lowest-place .ensures)
+    rw (renewed-full singleLength (a .t1) (a .tail) (a .c) (c .if1 .left), c .before .lowest-place .ensures)
 
 pub renewed-spec : {M : Type 1} → statement M
 renewed-spec =
