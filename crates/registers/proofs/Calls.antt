@@ -28,7 +28,7 @@ module _ {K : Type 0} (device : Device K) where
         cases (eqb (length initial) (device .size)) (λ e. cases (eqb (length serial) 10) (λ f. inl (simp (e, f))) (λ f. inr (simp (e, f))))
         (λ e. inr (simp e))
 
-    -- if it is not, it is 6 with the all-zero state
+    -- refused, it is 6 with the all-zero state
     pub load-refused : {num : ℕ} {s : State K} → Load device initial serial num s → ¬ (num ≡ 0) → (num ≡ numberOf refusals.size) × (s ≡ zeroState device)
     load-refused load h =
         ⊎-elim (λ e. absurd (h (load .number ∙ ap number e)))
@@ -66,7 +66,7 @@ module _ {K : Type 0} (device : Device K) where
       tests true true c z = absurd (omega arith)
       tests false b c z = absurd (omega arith)
 
-  -- 13 comes last: with enough memory the call is answered in the same way but for it
+  -- 13 comes last: a call is answered as one with enough memory, but for it
   pub next-room : (s : State K) (enough : Bool) → nextKey device s enough ≡ andThen (nextKey device s true) (λ g. require enough refusals.shortBuffer (done g))
   unfolding nextKey
   next-room s enough =

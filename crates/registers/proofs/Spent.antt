@@ -33,50 +33,50 @@ module _ {K : Type 0} (device : Device K) where
 
   -- the registers with those below that of the counter c filled from it
   abbrev refilled-below : List K → ℕ → ℕ → List K
-  refilled-below keys serial c = fill (lowestPlace c) (stepped device (getD keys (lowestPlace c) none) serial c) keys
+  refilled-below keys tail c = fill (lowestPlace c) (stepped device (getD keys (lowestPlace c) none) tail c) keys
 
   -- below ten one bits they are filled, at ten they stay; the counter's register is emptied
-  pub renewed-few : (keys : List K) (serial c : ℕ) → ones c < 10 → renewed device keys serial c ≡ emptied device (lowestPlace c) (refilled-below keys serial c)
+  pub renewed-few : (keys : List K) (tail c : ℕ) → ones c < 10 → renewed device keys tail c ≡ emptied device (lowestPlace c) (refilled-below keys tail c)
   unfolding renewed
-  renewed-few keys serial c h = rw (lt-ltb (ones c) 10 h) refl
+  renewed-few keys tail c h = rw (lt-ltb (ones c) 10 h) refl
 
-  pub renewed-full : (keys : List K) (serial c : ℕ) → 10 ≤ ones c → renewed device keys serial c ≡ emptied device (lowestPlace c) keys
+  pub renewed-full : (keys : List K) (tail c : ℕ) → 10 ≤ ones c → renewed device keys tail c ≡ emptied device (lowestPlace c) keys
   unfolding renewed
-  renewed-full keys serial c h = rw (le-ltb (ones c) 10 h) refl
+  renewed-full keys tail c h = rw (le-ltb (ones c) 10 h) refl
 
-  module _ (keys : List K) (serial c : ℕ) (ok : Permitted c) (size : length keys ≡ 21) where
+  module _ (keys : List K) (tail c : ℕ) (ok : Permitted c) (size : length keys ≡ 21) where
     abbrev l : ℕ
     l = lowestPlace c
 
     abbrev low : List K
-    low = refilled-below keys serial c
+    low = refilled-below keys tail c
 
     abbrev new : ℕ → K
-    new b = getD (renewed device keys serial c) b none
+    new b = getD (renewed device keys tail c) b none
 
     low-size : length low ≡ 21
-    low-size = length-fill l (stepped device (getD keys l none) serial c) keys ∙ size
+    low-size = length-fill l (stepped device (getD keys l none) tail c) keys ∙ size
 
     place : l < 21
     place = place-lt c (ok .from-one) (ok .fits)
 
     -- below ten one bits, and at ten
     few-at : ones c < 10 → (b : ℕ) → new b ≡ getD (emptied device l low) b none
-    few-at h b = ap (λ (k : List K). getD k b none) (renewed-few keys serial c h)
+    few-at h b = ap (λ (k : List K). getD k b none) (renewed-few keys tail c h)
 
     full-at : ¬ (ones c < 10) → (b : ℕ) → new b ≡ getD (emptied device l keys) b none
-    full-at h b = ap (λ (k : List K). getD k b none) (renewed-full keys serial c (omega arith))
+    full-at h b = ap (λ (k : List K). getD k b none) (renewed-full keys tail c (omega arith))
 
-    length-renewed : length (renewed device keys serial c) ≡ 21
+    length-renewed : length (renewed device keys tail c) ≡ 21
     length-renewed =
-        by-cases (decLt (ones c) 10) (λ h. ap length (renewed-few keys serial c h) ∙ length-set low l _ ∙ low-size)
-        (λ h. ap length (renewed-full keys serial c (omega arith)) ∙ length-set keys l _ ∙ size)
+        by-cases (decLt (ones c) 10) (λ h. ap length (renewed-few keys tail c h) ∙ length-set low l _ ∙ low-size)
+        (λ h. ap length (renewed-full keys tail c (omega arith)) ∙ length-set keys l _ ∙ size)
 
     -- register by register
-    new-below : (b : ℕ) → b < l → ones c < 10 → new b ≡ stepped device (getD keys l none) serial c b
+    new-below : (b : ℕ) → b < l → ones c < 10 → new b ≡ stepped device (getD keys l none) tail c b
     new-below b q h =
         few-at h b ∙ getD-set-other low l b _ none (λ e. omega arith)
-        ∙ fill-below l (stepped device (getD keys l none) serial c) keys b none q (omega (arith, place))
+        ∙ fill-below l (stepped device (getD keys l none) tail c) keys b none q (omega (arith, place))
 
     kept-below : (b : ℕ) → b < l → 10 ≤ ones c → new b ≡ getD keys b none
     kept-below b q h = full-at (λ z. omega arith) b ∙ getD-set-other keys l b _ none (λ e. omega arith)
@@ -92,7 +92,7 @@ module _ {K : Type 0} (device : Device K) where
     kept-above : (b : ℕ) → l < b → new b ≡ getD keys b none
     kept-above b q =
         by-cases (decLt (ones c) 10)
-        (λ h. few-at h b ∙ getD-set-other low l b _ none (λ e. omega arith) ∙ fill-above l (stepped device (getD keys l none) serial c) keys b none (omega arith))
+        (λ h. few-at h b ∙ getD-set-other low l b _ none (λ e. omega arith) ∙ fill-above l (stepped device (getD keys l none) tail c) keys b none (omega arith))
         (λ h. full-at h b ∙ getD-set-other keys l b _ none (λ e. omega arith))
 
     -- a register that is empty afterwards is zero if those that were empty are
@@ -108,7 +108,7 @@ module _ {K : Type 0} (device : Device K) where
 
     module _ (initial : K) where
       abbrev key : ℕ → K
-      key = registerKey F initial serial
+      key = registerKey F initial tail
 
       -- a filled register holds the key of its label if those that were filled do
       pub renewed-held : getD keys l none ≡ key c → ((b : ℕ) → b < 21 → bit (c - 1) b ≡ 0 → getD keys b none ≡ key (label (c - 1) b))
@@ -116,7 +116,7 @@ module _ {K : Type 0} (device : Device K) where
       renewed-held mine old b h e = go (change c (ok .from-one) (ok .fits) b)
         where
           go : Change c b → new b ≡ key (label (nextAfter c - 1) b)
-          go (new-key q few z y m t) = new-below b q few ∙ ap (λ (k : K). stepped device k serial c b) mine ∙ sym (key-step F initial serial c b y h m) ∙ ap key (sym t)
+          go (new-key q few z y m t) = new-below b q few ∙ ap (λ (k : K). stepped device k tail c b) mine ∙ sym (key-step F initial tail c b y h m) ∙ ap key (sym t)
           go (stays-empty q many z w) = absurd (omega arith)
           go (goes-empty q z) = absurd (omega arith)
           go (keeps q z t) = kept-above b q ∙ old b h (sym z ∙ e) ∙ ap key (sym t)

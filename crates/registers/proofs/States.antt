@@ -18,7 +18,7 @@ use Rattle.registers.proofs.Places.{Says, is-filled, is-bare, says, lab
 use Rattle.registers.proofs.Progress.{Follows, ready-most, follows-valid, loaded-follows}
 
 module _ {K : Type 0} (device : Device K) (derivation serial : List ℕ) where
-  -- the state s after those counters were given out: it follows the rule, and no other counter than these has a number up to theirs
+  -- the state s after those counters were given out: it follows the rule, and as many as they are, each of them is among that many smallest ones
   pub record After (given : List ℕ) (s : State K) : Type 0 where
     pub follows : Follows device derivation serial (length given) s
     pub numbers : (c : ℕ) → List·Memᴰ c given → permittedTo c ≤ length given
@@ -26,7 +26,7 @@ module _ {K : Type 0} (device : Device K) (derivation serial : List ℕ) where
   pub after-loading : After [] (loaded device (initialOf device derivation serial) serial)
   after-loading = record { follows = loaded-follows device derivation serial; numbers = λ c m. absurd (List·Memᴰ·not-nil m) }
 
-  -- one more
+  -- one counter more
   pub after-more : (given : List ℕ) (s t : State K) (c : ℕ) → After given s → Nth (suc (length given)) c
       → Follows device derivation serial (suc (length given)) t → After (given ++ c ∷ []) t
   after-more given s t c now nth next =

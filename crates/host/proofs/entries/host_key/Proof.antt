@@ -50,7 +50,7 @@ returns-2 c =
 register-key-requires : tie.Need-register-key-requires
 register-key-requires c κs =
     let m = c .before .before .before .before .before .before in
-    (counts (c .before .before .before .before) .fits, omega (arith, tail-clear (m .before .before .before .before .before .before .args .serial .now), c .cleared-tail .ensures))
+    (omega (arith, counts (c .before .before .before .before) .fits), omega (arith, tail-clear (m .before .before .before .before .before .before .args .serial .now), c .cleared-tail .ensures))
 
 returns-3 : tie.Need-returns-3
 unfolding hostKey
