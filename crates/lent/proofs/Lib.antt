@@ -8,3 +8,4 @@ pub mod Appending
 pub mod Prefixes
 pub mod Frames
 pub mod ReadsBack
+pub mod Decisions
