@@ -4,7 +4,7 @@ use mathlib.Core.Logic.{_⊎_, inl, inr, by-cases}
 use Prim.Native.Nat.{ℕ, zero, suc, _+_, _-_, _*_, _/_, _%_, _^_, _≤_, _<_}
 use native.Mathlib.Nat.{le-refl, not-suc-le-zero, zero-lt-suc, pow-suc, mod-lt, mul-assoc, mul-one, add-mul, eq-zero-or-pos, add-zero, pow-succ', mul-le-mul-right, one-mul}
 use native.Mathlib.Decide.{decLt, ℕ-discrete}
-use native.Mathlib.Numerals.{one-add}
+use native.Mathlib.Numerals.{add-one, one-add}
 use native.Mathlib.Omega.{arith}
 use lib.Dec.{lit<}
 use lib.Arith.{bin-ind}
@@ -15,9 +15,19 @@ use Rattle.registers.specs.Counters.{bit, Permitted, lowestPlace}
 
 -- ---- bits
 
+-- a number without its lowest bits, from the same with fewer of them gone: any fewer, one fewer, and all but one
+pub shr-on : (x b w : ℕ) → b ≤ w → x / 2 ^ w ≡ x / 2 ^ b / 2 ^ (w - b)
+shr-on x b w h = let e : b + (w - b) ≡ w = omega arith in ap (λ (k : ℕ). x / 2 ^ k) (sym e) ∙ sym (shr-shr x b (w - b))
+
+pub shr-suc : (x b : ℕ) → x / 2 ^ suc b ≡ x / 2 ^ b / 2
+shr-suc x b = ap (λ (k : ℕ). x / 2 ^ k) (sym (add-one b)) ∙ sym (shr-shr x b 1)
+
+pub shr-half : (x b : ℕ) → x / 2 ^ suc b ≡ x / 2 / 2 ^ b
+shr-half x b = ap (λ (k : ℕ). x / 2 ^ k) (sym (one-add b)) ∙ sym (shr-shr x 1 b)
+
 -- bit b + 1 is bit b of the half
-bit-suc : (x b : ℕ) → bit x (suc b) ≡ bit (x / 2) b
-bit-suc x b = ap (λ (k : ℕ). x / 2 ^ k % 2) (sym (one-add b)) ∙ ap (λ (y : ℕ). y % 2) (sym (shr-shr x 1 b))
+pub bit-suc : (x b : ℕ) → bit x (suc b) ≡ bit (x / 2) b
+bit-suc x b = ap (λ (y : ℕ). y % 2) (shr-half x b)
 
 -- a bit is 0 or 1
 pub bit-cases : (x b : ℕ) → (bit x b ≡ 0) ⊎ (bit x b ≡ 1)
@@ -63,11 +73,8 @@ at-place l a d r h q = ap (λ (x : ℕ). x % 2) (high (a * 2 + d) l q) ∙ omega
 pub above-place : (l a d r b : ℕ) → d < 2 → r < 2 ^ l → l < b → ((a * 2 + d) * 2 ^ l + r) / 2 ^ b ≡ a / 2 ^ (b - suc l)
 above-place l a d r b h q p =
     let x = (a * 2 + d) * 2 ^ l + r in
-    let e : l + (1 + (b - suc l)) ≡ b = omega arith in
-    let half : (a * 2 + d) / 2 ≡ a = omega arith in
-    ap (λ (k : ℕ). x / 2 ^ k) (sym e) ∙ sym (shr-shr x l (1 + (b - suc l)))
-    ∙ ap (λ (y : ℕ). y / 2 ^ (1 + (b - suc l))) (high (a * 2 + d) l q)
-    ∙ sym (shr-shr (a * 2 + d) 1 (b - suc l)) ∙ ap (λ (y : ℕ). y / 2 ^ (b - suc l)) half
+    let up : x / 2 ^ suc l ≡ a = omega (arith, shr-suc x l, high (a * 2 + d) l q) in
+    shr-on x (suc l) b p ∙ ap (λ (y : ℕ). y / 2 ^ (b - suc l)) up
 
 -- a multiple of 2 ^ (b + 1) is an even multiple of 2 ^ b
 pub twice : (y b : ℕ) → y * 2 ^ suc b ≡ y * 2 * 2 ^ b

@@ -1,14 +1,17 @@
--- The register key of a counter with one more bit, below all its others, is one step from the counter's.
+-- Register keys from one another: that of a counter with one more bit, below all its others, is one step from the counter's, and that of any
+-- counter some steps from that of its highest bits.
 use mathlib.Core.Path.{_≡_, refl, sym, ap, _∙_, subst}
 use mathlib.Core.Logic.{_⊎_, inl, inr}
-use Prim.Native.Nat.{ℕ, zero, suc, _+_, _-_, _*_, _/_, _%_, _^_, _<_}
+use Prim.Native.Nat.{ℕ, zero, suc, _+_, _-_, _*_, _/_, _%_, _^_, _≤_, _<_}
 use native.Mathlib.Nat.{le-of-suc-le-suc, eq-or-lt-of-le, not-suc-le-zero, mul-div-cancel, add-zero, add-mul, one-mul, zero-mul}
+use native.Mathlib.Decide.{le-ind}
 use native.Mathlib.Omega.{arith}
 use lib.Dec.{eqb, lit<}
-use lib.Pow.{pow-pos}
+use lib.Pow.{pow-pos, shl-shr}
 use Rattle.lent.specs.Choice.{pick}
+use Rattle.registers.specs.Counters.{bitsFrom}
 use Rattle.registers.specs.RegisterKey.{derive, registerKey}
-use Rattle.registers.proofs.Bits.{above-place, twice}
+use Rattle.registers.proofs.Bits.{shr-on, above-place, twice}
 
 module _ {K : Type 0} (F : K → ℕ → K) (tail : ℕ) where
   -- a multiple of 2 ^ b: nothing is left to do below place b
@@ -49,6 +52,16 @@ module _ {K : Type 0} (F : K → ℕ → K) (tail : ℕ) where
           same 1 (lit< tt) ∙ sym (ap (λ (x : ℕ). x * 2 ^ b / 2 ^ w) (sym (add-zero (y * 2))) ∙ same 0 (lit< tt)) in
           rw e (ih q _)
 
+  -- the places of x from b up are those of its bits from b up, and after them come the places below
+  derive-cut : (b x w : ℕ) → b ≤ w → (k : K) → derive F tail w k x ≡ derive F tail b (derive F tail w k (bitsFrom b x)) x
+  unfolding derive
+  derive-cut b x = le-ind (λ (w : ℕ). (k : K) → derive F tail w k x ≡ derive F tail b (derive F tail w k (bitsFrom b x)) x)
+      (λ k. ap (λ (j : K). derive F tail b j x) (sym (derive-rest b (x / 2 ^ b) k)))
+      (λ w h ih k.
+      let same : bitsFrom b x / 2 ^ w ≡ x / 2 ^ w =
+      shr-on (bitsFrom b x) b w h ∙ ap (λ (y : ℕ). y / 2 ^ (w - b)) (shl-shr (x / 2 ^ b) b) ∙ sym (shr-on x b w h) in
+      rw same (ih _))
+
 module _ {K : Type 0} (F : K → ℕ → K) (initial : K) (tail : ℕ) where
   -- c is a multiple of 2 ^ (b + 1)
   pub key-step : (c b y : ℕ) → b < 21 → c ≡ y * 2 ^ suc b
@@ -62,3 +75,8 @@ module _ {K : Type 0} (F : K → ℕ → K) (initial : K) (tail : ℕ) where
   pub key-zero : registerKey F initial tail 0 ≡ initial
   unfolding registerKey
   key-zero = ap (derive F tail 21 initial) (sym (zero-mul (2 ^ 21))) ∙ derive-rest F tail 21 0 initial
+
+  -- the key of a counter, from that of its bits from b up
+  pub key-under : (x b : ℕ) → b ≤ 21 → registerKey F initial tail x ≡ derive F tail b (registerKey F initial tail (bitsFrom b x)) x
+  unfolding registerKey
+  key-under x b h = derive-cut F tail b x 21 h initial

@@ -6,6 +6,10 @@ pub use Rattle.registers.proofs.States.{After, after-loading, after-val
 pub use Rattle.registers.proofs.Theorem.{Sound, sound-demand3}
 pub use Rattle.registers.proofs.Records.{demand3, promised-loaded, done-writes, refused-stays, callWith, some-calls, one-call}
 pub use Rattle.registers.proofs.Traces.{some-trace}
+-- which counters were given out, by the next one, and from which register's key each other one's is derived
+pub use Rattle.registers.proofs.Given.{given-below, given-all, reached-key}
+-- which numbers lie under the filled registers of a state that hangs together
+pub use Rattle.registers.proofs.Reach.{under-later, later-under}
 -- the host's derivations, and the halves of a derivation key
 pub use Rattle.registers.proofs.Hosts.{Fit, fit, initial-done, initial-loads, host-refuses, host-done}
 -- loading and a call, by their cases
@@ -28,12 +32,11 @@ use Prim.Native.Nat.{ℕ, _≤_}
 use native.Mathlib.Omega.{arith}
 use Rattle.lent.specs.Refusals.{badRecord}
 use Rattle.lent.specs.Result.{refused}
-use Rattle.registers.specs.Counters.{counterPermitted, countTo, Nth, lastCounter, counterTotal}
+use Rattle.registers.specs.Counters.{Nth, lastCounter, counterTotal}
 use Rattle.registers.specs.Device.{Device}
 use Rattle.registers.specs.Machine.{zeroState}
 use Rattle.registers.specs.Calls.{nextKey}
-use Rattle.registers.proofs.Counting.{count-lt}
-use Rattle.registers.proofs.Order.{nth-below}
+use Rattle.registers.proofs.Order.{count-least, nth-below}
 use Rattle.registers.proofs.Total.{count-most}
 
 -- each n from 1 to 1,048,575 has an n-th smallest permitted counter, which is one number by nth-unique, and no other n has one
@@ -41,9 +44,7 @@ pub nth-exists : (n : ℕ) → 1 ≤ n → n ≤ counterTotal → (c : ℕ) × N
 nth-exists n p h = nth-below lastCounter n p (omega (arith, total))
 
 pub nth-range : (n c : ℕ) → Nth n c → (1 ≤ n) × (n ≤ counterTotal)
-unfolding countTo
-nth-range n c x =
-    (omega (arith, count-lt counterPermitted 0 c (x .permitted .from-one) (passes (x .permitted))), omega (arith, count-most c (x .permitted)))
+nth-range n c x = (omega (arith, x .number, count-least c (x .permitted)), omega (arith, x .number, count-most c (x .permitted)))
 
 -- the record of a refused loading is 11
 pub zero-refused : {K : Type 0} (device : Device K) (enough : Bool) → nextKey device (zeroState device) enough ≡ refused badRecord

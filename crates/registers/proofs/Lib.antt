@@ -6,6 +6,7 @@ pub mod Keys
 pub mod Filling
 pub mod Places
 pub mod Validity
+pub mod Reach
 pub mod Spent
 pub mod SerialNumbers
 pub mod Lawful
@@ -15,6 +16,7 @@ pub mod Calls
 pub mod Progress
 pub mod Traces
 pub mod States
+pub mod Given
 pub mod Theorem
 pub mod Records
 pub mod Laws

@@ -1,6 +1,6 @@
 -- The permitted counters in order: their count, the next one, the last one, the n-th smallest.
 use mathlib.Core.Path.{_≡_, refl, sym, ap, _∙_, subst}
-use mathlib.Core.Logic.{if-pos, if-neg, by-cases}
+use mathlib.Core.Logic.{_↔_, if-pos, if-neg, by-cases}
 use mathlib.Core.Bool.{true, false, false≢true}
 use Prim.Native.Nat.{ℕ, suc, _+_, _-_, _*_, _/_, _^_, _≤_, _<_}
 use native.Mathlib.Nat.{zero-lt-suc, add-mul, le-refl}
@@ -11,8 +11,8 @@ use borrow.Author.Tests.{lt-ltb, le-ltb}
 use lib.Dec.{lit<, lit≤}
 use lib.Pow.{pow-pos, pow-mono, shr-lt, shl-shr}
 use lib.Count.{ones, ones-cat, ones-ones, ones-le}
-use Rattle.registers.specs.Counters.{Permitted, permitted?, counterPermitted, permittedTo, Nth, lastCounter, lowestPlace, nextAfter, nextCounter}
-use Rattle.registers.proofs.Counting.{count-hit, count-gap, count-unique, count-below}
+use Rattle.registers.specs.Counters.{Permitted, permitted?, counterPermitted, countTo, permittedTo, Nth, lastCounter, lowestPlace, nextAfter, nextCounter}
+use Rattle.registers.proofs.Counting.{count-hit, count-gap, count-mono, count-lt, count-unique, count-below}
 use Rattle.registers.proofs.Bits.{Lowest, lowest, place-lt, ones-pos, ones-odd, ones-shl, ones-suc, twice}
 
 -- ---- the count
@@ -27,9 +27,21 @@ fails {c} bad = if-neg (permitted? c) bad true false
 passed : (c : ℕ) → counterPermitted c ≡ true → Permitted c
 passed c e = by-cases (permitted? c) (λ ok. ok) (λ bad. absurd (false≢true (sym (fails bad) ∙ e)))
 
+-- a permitted counter's number is from 1 on
+pub count-least : (c : ℕ) → Permitted c → 1 ≤ permittedTo c
+unfolding countTo
+count-least c ok = omega (arith, count-lt counterPermitted 0 c (ok .from-one) (passes ok))
+
 -- there is at most one n-th smallest
 pub nth-unique : (n c d : ℕ) → Nth n c → Nth n d → c ≡ d
 nth-unique n c d x y = count-unique counterPermitted c d (passes (x .permitted)) (passes (y .permitted)) (x .number ∙ sym (y .number))
+
+-- the numbers below it are those with a lower count
+pub nth-before : (n c x : ℕ) → Nth (suc n) c → (permittedTo x ≤ n) ↔ (x < c)
+nth-before n c x nth = (
+  λ h. by-cases (decLt x c) (λ q. q) (λ q. absurd (omega (arith, nth .number, count-mono counterPermitted c x (omega arith)))),
+  λ h. omega (arith, nth .number, count-lt counterPermitted x c h (passes (nth .permitted))),
+)
 
 -- each n up to the count of x has one
 pub nth-below : (x n : ℕ) → 1 ≤ n → n ≤ permittedTo x → (c : ℕ) × Nth n c

@@ -3,19 +3,18 @@
 use mathlib.Core.Path.{_≡_, refl, sym, ap, _∙_, subst}
 use mathlib.Core.Logic.{_⊎_, inl, inr, by-cases}
 use Prim.Native.Nat.{ℕ, suc, _+_, _-_, _*_, _/_, _%_, _^_, _≤_, _<_}
-use native.Mathlib.Nat.{add-zero, add-mul, mul-assoc, mul-div-cancel, zero-div, le-refl, sub-self, div-one, zero-lt-suc, mod-lt, pow-suc}
+use native.Mathlib.Nat.{add-zero, add-mul, mul-assoc, mul-div-cancel, zero-div, le-refl, sub-self, div-one, zero-lt-suc, mod-lt, pow-suc, one-mul}
 use native.Mathlib.Decide.{decLt, ℕ-discrete}
-use native.Mathlib.Numerals.{add-one}
 use native.Mathlib.Omega.{arith}
 use borrow.Author.Tests.{ne-eqb}
 use lib.Dec.{lit<}
 use lib.Arith.{digits-lt}
-use lib.Pow.{pow-pos, pow-lt, pow-add, ones-lt, shr-shr, shr-lt, split}
+use lib.Pow.{pow-pos, pow-lt, pow-add, ones-lt, shr-lt, split}
 use lib.Count.{ones, ones-cat}
 use Rattle.registers.specs.Counters.{bit, Permitted, lowestPlace, nextAfter}
 use Rattle.registers.specs.Machine.{filledMask}
 use Rattle.registers.specs.Rule.{Filled, label}
-use Rattle.registers.proofs.Bits.{bit-cases, turned, bit-ones, below-place, at-place, above-place, twice, Lowest, lowest, ones-pos, ones-odd, ones-shl}
+use Rattle.registers.proofs.Bits.{shr-suc, bit-cases, turned, bit-ones, below-place, at-place, above-place, twice, Lowest, lowest, ones-pos, ones-odd, ones-shl}
 use Rattle.registers.proofs.Order.{next-few, next-full}
 
 -- how the place b lies to l
@@ -26,6 +25,10 @@ data Place (b l : ℕ) : Type 0 where
 
 place : (b l : ℕ) → Place b l
 place b l = by-cases (decLt b l) (λ h. is-below h) (λ h. by-cases (ℕ-discrete b l) (λ e. is-at e) (λ e. is-above (omega arith)))
+
+-- register b's label is an odd number with b zeros below
+pub label-odd : (c b : ℕ) → label c b ≡ (c / 2 ^ suc b * 2 + 1) * 2 ^ b
+label-odd c b = omega (arith, twice (c / 2 ^ suc b) b, add-mul (c / 2 ^ suc b * 2) 1 (2 ^ b), one-mul (2 ^ b))
 
 -- a register is filled or not, as bit b of c - 1 says; if it is, that number gives its label too
 pub data Says (c b : ℕ) : Type 0 where
@@ -65,7 +68,7 @@ module _ (c : ℕ) (from-one : 1 ≤ c) (fits : c < 2 ^ 21) where
 
   -- so its labels from l on are those of c - 1
   labelled : (x d r b : ℕ) → d < 2 → r < 2 ^ l → x ≡ (a * 2 + d) * 2 ^ l + r → l < suc b → label x b ≡ label (c - 1) b
-  labelled x d r b h q e p = ap (λ (z : ℕ). z * 2 ^ suc b + 2 ^ b) (above x d r (suc b) h q e p)
+  labelled x d r b h q e p = rw (above x d r (suc b) h q e p)
 
   -- the bits of c - 1 below l are ones, and bit l is 0
   ones-below : (b : ℕ) → b < l → bit (c - 1) b ≡ 1
@@ -156,7 +159,7 @@ module _ (c : ℕ) (from-one : 1 ≤ c) (fits : c < 2 ^ 21) where
       let up : c / 2 ^ suc l ≡ a =
       ap (λ (x : ℕ). x / 2 ^ suc l) c-shape ∙ above-place l a 1 0 (suc l) (lit< tt) (pow-pos l) (le-refl (suc l))
       ∙ ap (λ (k : ℕ). a / 2 ^ k) (sub-self (suc l)) ∙ div-one a in
-      ap (λ (x : ℕ). x * 2 ^ suc l + 2 ^ l) up ∙ omega (arith, low .shape, twice a l, add-mul (a * 2) 1 (2 ^ l))
+      label-odd c l ∙ ap (λ (x : ℕ). (x * 2 + 1) * 2 ^ l) up ∙ sym (low .shape)
 
   -- a filled register's label is a counter not below c, with no more one bits
   pub label-later : ones c ≤ 10 → (b : ℕ) → b < 21 → Filled c b → Permitted (label c b) × (c ≤ label c b)
@@ -182,13 +185,10 @@ module _ (c : ℕ) (from-one : 1 ≤ c) (fits : c < 2 ^ 21) where
           some-low = omega (arith, small, pow-suc 2 b, pow-pos b)
 
           half : (c - 1) / 2 ^ b ≡ u * 2
-          half = omega (arith, shr-shr (c - 1) b 1, ap (λ (k : ℕ). (c - 1) / 2 ^ k) (add-one b))
+          half = omega (arith, shr-suc (c - 1) b)
 
           up : c ≡ u * 2 ^ suc b + suc r
           up = omega (arith, split (c - 1) b, ap (λ (x : ℕ). x * 2 ^ b) half, twice u b)
-
-          odd : label (c - 1) b ≡ (u * 2 + 1) * 2 ^ b
-          odd = omega (arith, twice u b, add-mul (u * 2) 1 (2 ^ b))
 
           wide : _≡_ {A = ℕ} 21 (20 - b + suc b)
           wide = omega arith
@@ -201,4 +201,4 @@ module _ (c : ℕ) (from-one : 1 ≤ c) (fits : c < 2 ^ 21) where
           few-label : ones (label (c - 1) b) ≤ 10
           few-label =
               let counted = ones-cat (suc b) u (suc r) some-low in
-              omega (arith, ap ones odd, ones-shl (u * 2 + 1) b, ones-odd u, ap ones up, ones-pos (suc r) (zero-lt-suc r))
+              omega (arith, ap ones (label-odd (c - 1) b), ones-shl (u * 2 + 1) b, ones-odd u, ap ones up, ones-pos (suc r) (zero-lt-suc r))

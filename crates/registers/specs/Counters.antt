@@ -2,7 +2,7 @@
 use mathlib.Core.Path.{_≡_}
 use mathlib.Core.Logic.{ite, Dec·and}
 use mathlib.Core.Bool.{Bool, true, false}
-use Prim.Native.Nat.{ℕ, zero, suc, _+_, _/_, _%_, _^_, _≤_, _<_}
+use Prim.Native.Nat.{ℕ, zero, suc, _+_, _*_, _/_, _%_, _^_, _≤_, _<_}
 use native.Mathlib.Decide.{decLe, decLt, map-dec}
 use lib.Dec.{ltb}
 use lib.Count.{ones, trailingZeros}
@@ -11,6 +11,10 @@ use Rattle.lent.specs.Choice.{pick}
 -- bit b of x, the lowest being bit 0
 abbrev pub bit : ℕ → ℕ → ℕ
 bit x b = x / 2 ^ b % 2
+
+-- the bits of x from bit b up: all below it are cleared
+abbrev pub bitsFrom : ℕ → ℕ → ℕ
+bitsFrom b x = x / 2 ^ b * 2 ^ b
 
 -- a counter that may be given out: from 1, of 21 bits, at most ten of them one
 pub record Permitted (c : ℕ) : Type 0 where

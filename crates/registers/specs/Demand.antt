@@ -14,6 +14,7 @@ use Rattle.registers.specs.SerialNumber.{withCounter}
 use Rattle.registers.specs.Device.{Device}
 use Rattle.registers.specs.Machine.{State, keyAt, filledAt}
 use Rattle.registers.specs.Rule.{Blank, FilledByRule}
+use Rattle.registers.specs.Reach.{UnderFilled, UnderOne}
 use Rattle.registers.specs.Host.{keyOf, hostKey}
 use Rattle.registers.specs.Calls.{Given}
 use Rattle.registers.specs.Trace.{Trace, recordAfter, countersOf}
@@ -51,6 +52,10 @@ module _ {K : Type 0} (device : Device K) (derivation serial : List ℕ) where
     pub rule : FilledByRule device (keyOf device derivation serial) s
     -- each register is empty and zero, or holds the register key of a counter not yet given out
     pub registers : (b : ℕ) → b < 21 → Blank device s b ⊎ Waits given s b
+    -- no payment key is out of reach (02, M-101): every permitted counter not yet given out lies under exactly one filled register, and none
+    -- already given out lies under any
+    pub within-reach : (x : ℕ) → Permitted x → ¬ List·Memᴰ x given → UnderOne s x
+    pub beyond-reach : (x : ℕ) → List·Memᴰ x given → (b : ℕ) → ¬ UnderFilled s x b
 
   module _ {T X : Type 0} (entry : Entry K T X) where
     -- the call x with the record t gives out the n-th smallest permitted counter, the serial number with that counter, and the host's key for it

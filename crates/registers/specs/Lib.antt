@@ -4,6 +4,7 @@ pub mod RegisterKey
 pub mod Device
 pub mod Machine
 pub mod Rule
+pub mod Reach
 pub mod Deciding
 pub mod Host
 pub mod Calls

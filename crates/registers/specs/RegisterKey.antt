@@ -1,17 +1,17 @@
 -- The register key of a counter, from the initial key, as the host derives it (01, Terminal keys).
 -- K is the type of a key, F the one-way step on a key and the data, `tail` the last eight bytes of the serial number with the counter
 -- cleared, so that adding a counter sets its bits.
-use Prim.Native.Nat.{ℕ, zero, suc, _+_, _*_, _/_, _^_}
+use Prim.Native.Nat.{ℕ, zero, suc, _+_}
 use lib.Dec.{eqb}
 use Rattle.lent.specs.Choice.{pick}
-use Rattle.registers.specs.Counters.{bit}
+use Rattle.registers.specs.Counters.{bit, bitsFrom}
 
 module _ {K : Type 0} (F : K → ℕ → K) (tail : ℕ) where
   -- From the key so far through the places b - 1, .., 0 of the counter c, highest first: a one bit makes a step, with the data in which
   -- it and the bits of c above it are set.
   unfoldable pub derive : ℕ → K → ℕ → K
   derive zero key c = key
-  derive (suc b) key c = derive b (pick (eqb (bit c b) 1) (F key (tail + c / 2 ^ b * 2 ^ b)) key) c
+  derive (suc b) key c = derive b (pick (eqb (bit c b) 1) (F key (tail + bitsFrom b c)) key) c
 
 -- the register key of the counter c
 unfoldable pub registerKey : {K : Type 0} → (K → ℕ → K) → K → ℕ → ℕ → K

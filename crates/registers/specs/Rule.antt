@@ -2,9 +2,9 @@
 use mathlib.Core.Path.{_≡_}
 use mathlib.Core.Logic.{_⊎_}
 use mathlib.Core.Bool.{false}
-use Prim.Native.Nat.{ℕ, suc, _+_, _*_, _/_, _^_, _<_}
+use Prim.Native.Nat.{ℕ, suc, _+_, _^_, _<_}
 use lib.ListN.{length}
-use Rattle.registers.specs.Counters.{bit, lowestPlace}
+use Rattle.registers.specs.Counters.{bit, bitsFrom, lowestPlace}
 use Rattle.registers.specs.SerialNumber.{counterOf}
 use Rattle.registers.specs.Device.{Device}
 use Rattle.registers.specs.Machine.{State, Counted, keyAt, filledAt}
@@ -15,7 +15,7 @@ Filled c b = (b ≡ lowestPlace c) ⊎ ((lowestPlace c < b) × (bit c b ≡ 0))
 
 -- the counter whose register key it holds: the bits of c above b, plus bit b
 abbrev pub label : ℕ → ℕ → ℕ
-label c b = c / 2 ^ suc b * 2 ^ suc b + 2 ^ b
+label c b = bitsFrom (suc b) c + 2 ^ b
 
 module _ {K : Type 0} (device : Device K) where
   -- register b is empty and zero

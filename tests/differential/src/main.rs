@@ -237,8 +237,9 @@ fn differential() -> Result<(), String> {
     same_refusals(&listed, &all, least)?;
     let pairs: usize = listed.iter().map(|entry| entry.refusals.len()).sum();
     println!("header                   {pairs:>8} pairs of an entry and a refusal, each answered {least} times or more");
-    let sampled = terminals::drain(&mut random, keys, SAMPLE)?;
+    let (sampled, reached) = terminals::drain(&mut random, keys, SAMPLE)?;
     println!("drain                    {keys:>8} keys, each the host's; {sampled} compared with the second implementation");
+    println!("reach                    {reached:>8} counters of its records, each under one filled register, or under none once given");
     let inputs: usize = all.values().flat_map(|seen| seen.0).sum();
     println!(
         "differential: ok, {inputs} inputs, {:.0} s",

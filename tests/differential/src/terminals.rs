@@ -174,12 +174,19 @@ fn described(initial: [u8; 8], serial: [u8; 10], counter: u32) -> Record {
     })
 }
 
-/// A terminal that is drained, with what the host knows of it.
+/// A terminal that is drained, with what the host knows of it and the counters that it has given out.
 struct Drained {
     derivation: [u8; 16],
     serial: [u8; 10],
     initial: [u8; 8],
     record: [u8; RECORD_BYTES],
+    given: Vec<bool>,
+}
+
+/// The permitted counters from the first on, in steps of so many numbers of 21 bits.
+fn counters(first: usize, step: usize) -> impl Iterator<Item = u32> {
+    let numbers = (first as u32..1 << 21).step_by(step);
+    numbers.filter(|counter| counter.count_ones() <= 10)
 }
 
 impl Drained {
@@ -194,6 +201,7 @@ impl Drained {
             serial,
             initial,
             record,
+            given: vec![false; 1 << 21],
         })
     }
 
@@ -213,7 +221,30 @@ impl Drained {
                 hex(&host)
             ));
         }
+        self.given[counter as usize] = true;
         Ok(())
+    }
+
+    /// Each of these counters must lie under exactly one filled register of the record, or under none if it was given out
+    /// (02, M-101). Gives how many they are.
+    fn reach(&self, counters: impl Iterator<Item = u32>) -> Result<usize, String> {
+        let record =
+            dukpt::from_bytes(&self.record).map_err(|number| format!("record: {number}"))?;
+        let labels = dukpt::labels(&record);
+        let mut checked = 0;
+        for counter in counters {
+            let over = labels
+                .iter()
+                .filter(|label| dukpt::lies_under(counter, **label));
+            let (over, given) = (over.count(), self.given[counter as usize]);
+            if over != usize::from(!given) {
+                return Err(format!(
+                    "{counter:X} lies under {over} filled registers, and given out is {given}"
+                ));
+            }
+            checked += 1;
+        }
+        Ok(checked)
     }
 
     /// Before a counter is given out: the record must be as described, and the second implementation's host key the
@@ -242,26 +273,31 @@ impl Drained {
 }
 
 /// Loads a terminal and calls for so many keys: each must have the next permitted counter and be the library's host key;
-/// one in `sample` is compared with the second implementation's host key, and the record with its description. After the
-/// last key three more calls must be refused with 12 and change nothing. Gives how many were sampled.
-pub fn drain(random: &mut Random, keys: usize, sample: usize) -> Result<usize, String> {
+/// one in `sample` is compared with the second implementation's host key, and the record with its description, and some
+/// counters by the registers that they lie under; all counters before the first key and after the last. After the last of
+/// all keys three more calls must be refused with 12 and change nothing. Gives how many keys were sampled, and how many
+/// counters.
+pub fn drain(random: &mut Random, keys: usize, sample: usize) -> Result<(usize, usize), String> {
     let mut terminal = Drained::loaded(random).map_err(|e| format!("loading: {e}"))?;
     let (derivation, serial) = (hex(&terminal.derivation), hex(&terminal.serial));
-    let permitted = (1..1 << 21).filter(|counter: &u32| counter.count_ones() <= 10);
-    for (n, counter) in permitted.take(keys).enumerate() {
+    let mut reached = terminal.reach(counters(1, 1))?;
+    for (n, counter) in counters(1, 1).take(keys).enumerate() {
         let at = |difference| {
             format!("drain, derivation key {derivation} serial number {serial} counter {counter:X}: {difference}")
         };
         if n % sample == 0 {
             terminal.sample(counter).map_err(at)?;
+            let some = counters(1 + n / sample % sample, sample);
+            reached += terminal.reach(some).map_err(at)?;
         }
         terminal.call(counter).map_err(at)?;
     }
+    reached += terminal.reach(counters(1, 1))?;
     for _ in 0..if keys == ALL_KEYS { 3 } else { 0 } {
         let number = compare_call(random, &terminal.record, 8, 10)?;
         if number != EXHAUSTED {
             return Err(format!("drain: after the last key the number is {number}"));
         }
     }
-    Ok(keys.div_ceil(sample))
+    Ok((keys.div_ceil(sample), reached))
 }

@@ -51,8 +51,9 @@ fn lowest(counter: u32) -> usize {
     bits.find(|b| bit(counter, *b)).expect("a one bit")
 }
 
-/// The bits of a counter above b, plus bit b.
-fn above_plus(counter: u32, b: usize) -> u32 {
+/// Register b's label when a counter is next: the bits of the counter above b,
+/// plus bit b.
+fn label(counter: u32, b: usize) -> u32 {
     let above = (b + 1..REGISTERS).filter(|above| bit(counter, *above));
     above.fold(1 << b, |sum, above| sum + (1 << above))
 }
@@ -181,6 +182,19 @@ pub fn hangs_together(record: &Record) -> bool {
     counter_and_mask_agree(record) && empty_are_zero && serial_is_cleared
 }
 
+/// The labels of a record's filled registers, lowest first.
+pub fn labels(record: &Record) -> Vec<u32> {
+    let filled = (0..REGISTERS).filter(|b| bit(record.filled, *b));
+    filled.map(|b| label(record.counter, b)).collect()
+}
+
+/// Whether a counter lies under a register with this label: clearing all its
+/// bits below the label's lowest one bit gives the label (02, M-101).
+pub fn lies_under(counter: u32, label: u32) -> bool {
+    let below = (1 << label.trailing_zeros()) - 1;
+    counter & !below == label
+}
+
 /// Loading: the counter bits of the serial number are cleared and counter 1 is
 /// next; register b holds the register key of bit b alone: 6.
 pub fn terminal_load(initial: &[u8], serial: &[u8]) -> Result<Record, u8> {
@@ -217,7 +231,7 @@ fn new_register(record: &Record, next: u32, b: usize) -> [u8; 8] {
     } else if b > l {
         record.keys[b]
     } else {
-        let counter = above_plus(next, b);
+        let counter = label(next, b);
         assert_eq!(counter, record.counter + (1 << b));
         one_way(data(&record.serial, counter), record.keys[l])
     }

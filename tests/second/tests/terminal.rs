@@ -5,8 +5,8 @@ mod common;
 
 use common::{described, hex, sized, DERIVATION, SERIAL};
 use second::dukpt::{
-    from_bytes, hangs_together, host_key, initial_key, next_counter, terminal_load,
-    terminal_next_key, to_bytes, with_counter, Record,
+    from_bytes, hangs_together, host_key, initial_key, labels, lies_under, next_counter,
+    terminal_load, terminal_next_key, to_bytes, with_counter, Record,
 };
 
 const LAST: u32 = 0x1F_F800;
@@ -99,6 +99,21 @@ fn next_counter_adds_1_or_the_lowest_one_bit() {
     assert_eq!(counter, LAST);
     // Counters of 21 bits with 1 to 10 one bits: half of 2^21, without 0.
     assert_eq!(given, (1 << 20) - 1);
+}
+
+#[test]
+fn each_counter_lies_under_one_register_until_it_is_given() {
+    let starts = [1, 2, 3, 0x3FF, 0x7FE, 0x800, 0xF_FC00, 0x10_0000, LAST];
+    for record in starts.map(at) {
+        let labels = labels(&record);
+        let permitted = (1u32..1 << 21).filter(|c| c.count_ones() <= 10);
+        for counter in permitted {
+            let over = labels.iter().filter(|label| lies_under(counter, **label));
+            assert_eq!(over.count(), usize::from(counter >= record.counter));
+        }
+    }
+    // 3 is 2 and 1: with 2 next it lies under register 1, whose label is 2.
+    assert!(lies_under(3, 2) && !lies_under(4, 2) && !lies_under(3, 1));
 }
 
 #[test]
