@@ -15,7 +15,7 @@ use Rattle.registers.specs.Counters.{bit, Permitted, lowestPlace}
 
 -- ---- bits
 
--- a number without its lowest bits, from the same with fewer of them gone: any fewer, one fewer, and all but one
+-- shifted right by w: by b and the rest; by b and 1; by 1 and b
 pub shr-on : (x b w : ℕ) → b ≤ w → x / 2 ^ w ≡ x / 2 ^ b / 2 ^ (w - b)
 shr-on x b w h = let e : b + (w - b) ≡ w = omega arith in ap (λ (k : ℕ). x / 2 ^ k) (sym e) ∙ sym (shr-shr x b (w - b))
 

@@ -17,6 +17,7 @@ pub mod Progress
 pub mod Traces
 pub mod States
 pub mod Given
+pub mod Examples
 pub mod Theorem
 pub mod Records
 pub mod Laws

@@ -3,13 +3,13 @@
 use mathlib.Core.Path.{_≡_, refl, sym, ap, _∙_, subst}
 use mathlib.Core.Logic.{_⊎_, inl, inr, by-cases}
 use Prim.Native.Nat.{ℕ, suc, _+_, _-_, _*_, _/_, _%_, _^_, _≤_, _<_}
-use native.Mathlib.Nat.{add-zero, add-mul, mul-assoc, mul-div-cancel, zero-div, le-refl, sub-self, div-one, zero-lt-suc, mod-lt, pow-suc, one-mul}
+use native.Mathlib.Nat.{add-zero, add-mul, mul-assoc, mul-div-cancel, zero-div, le-refl, zero-lt-suc, mod-lt, pow-suc, one-mul}
 use native.Mathlib.Decide.{decLt, ℕ-discrete}
 use native.Mathlib.Omega.{arith}
 use borrow.Author.Tests.{ne-eqb}
 use lib.Dec.{lit<}
 use lib.Arith.{digits-lt}
-use lib.Pow.{pow-pos, pow-lt, pow-add, ones-lt, shr-lt, split}
+use lib.Pow.{pow-pos, pow-lt, pow-add, ones-lt, shl-shr, shr-lt, split}
 use lib.Count.{ones, ones-cat}
 use Rattle.registers.specs.Counters.{bit, Permitted, lowestPlace, nextAfter}
 use Rattle.registers.specs.Machine.{filledMask}
@@ -156,9 +156,7 @@ module _ (c : ℕ) (from-one : 1 ≤ c) (fits : c < 2 ^ 21) where
   -- the register of the counter's lowest one bit belongs to the counter itself
   pub label-own : label c l ≡ c
   label-own =
-      let up : c / 2 ^ suc l ≡ a =
-      ap (λ (x : ℕ). x / 2 ^ suc l) c-shape ∙ above-place l a 1 0 (suc l) (lit< tt) (pow-pos l) (le-refl (suc l))
-      ∙ ap (λ (k : ℕ). a / 2 ^ k) (sub-self (suc l)) ∙ div-one a in
+      let up : c / 2 ^ suc l ≡ a = omega (arith, shr-suc c l, ap (λ (x : ℕ). x / 2 ^ l) (low .shape), shl-shr (a * 2 + 1) l) in
       label-odd c l ∙ ap (λ (x : ℕ). (x * 2 + 1) * 2 ^ l) up ∙ sym (low .shape)
 
   -- a filled register's label is a counter not below c, with no more one bits

@@ -13,7 +13,7 @@ use Rattle.registers.specs.Machine.{State, Counted, keyAt, filledAt}
 abbrev pub Filled : ℕ → ℕ → Type 0
 Filled c b = (b ≡ lowestPlace c) ⊎ ((lowestPlace c < b) × (bit c b ≡ 0))
 
--- the counter whose register key it holds: the bits of c above b, plus bit b
+-- register b's label, the counter whose register key it holds: the bits of c above b, plus bit b
 abbrev pub label : ℕ → ℕ → ℕ
 label c b = bitsFrom (suc b) c + 2 ^ b
 
