@@ -280,11 +280,13 @@ impl Drained {
 pub fn drain(random: &mut Random, keys: usize, sample: usize) -> Result<(usize, usize), String> {
     let mut terminal = Drained::loaded(random).map_err(|e| format!("loading: {e}"))?;
     let (derivation, serial) = (hex(&terminal.derivation), hex(&terminal.serial));
-    let mut reached = terminal.reach(counters(1, 1))?;
+    let failed = |when: &str, difference: String| {
+        format!("drain, derivation key {derivation} serial number {serial} {when}: {difference}")
+    };
+    let loaded = terminal.reach(counters(1, 1));
+    let mut reached = loaded.map_err(|difference| failed("loaded", difference))?;
     for (n, counter) in counters(1, 1).take(keys).enumerate() {
-        let at = |difference| {
-            format!("drain, derivation key {derivation} serial number {serial} counter {counter:X}: {difference}")
-        };
+        let at = |difference| failed(&format!("counter {counter:X}"), difference);
         if n % sample == 0 {
             terminal.sample(counter).map_err(at)?;
             let some = counters(1 + n / sample % sample, sample);
@@ -292,7 +294,8 @@ pub fn drain(random: &mut Random, keys: usize, sample: usize) -> Result<(usize, 
         }
         terminal.call(counter).map_err(at)?;
     }
-    reached += terminal.reach(counters(1, 1))?;
+    let drained = terminal.reach(counters(1, 1));
+    reached += drained.map_err(|difference| failed("drained", difference))?;
     for _ in 0..if keys == ALL_KEYS { 3 } else { 0 } {
         let number = compare_call(random, &terminal.record, 8, 10)?;
         if number != EXHAUSTED {

@@ -182,7 +182,7 @@ pub fn hangs_together(record: &Record) -> bool {
     counter_and_mask_agree(record) && empty_are_zero && serial_is_cleared
 }
 
-/// The labels of a record's filled registers, lowest first.
+/// The labels of a record's filled registers, lowest register first.
 pub fn labels(record: &Record) -> Vec<u32> {
     let filled = (0..REGISTERS).filter(|b| bit(record.filled, *b));
     filled.map(|b| label(record.counter, b)).collect()
