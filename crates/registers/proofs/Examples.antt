@@ -1,7 +1,6 @@
 -- Which counters lie under which register, computed. With 3 next, register 0 has the label 3, register 1 is empty, and register 2 has the label
 -- 4: under it lie 4, 5, 6 and 7.
 use mathlib.Core.Path.{_≡_, refl}
-use Prim.Native.Nat.{ℕ}
 use native.Mathlib.Omega.{arith}
 use lib.Count.{trailingZeros}
 use Rattle.registers.specs.Counters.{bit}

@@ -58,9 +58,8 @@ differ zero p x h l = absurd (omega arith)
 differ (suc n) p x h l =
     by-cases (decLt (p / 2) (x / 2))
     (λ q.
-    let r = differ n (p / 2) (x / 2) q (omega (arith, pow-suc 2 n)) in
-    let b = r .0 in
-    (suc b, omega (arith, r .1), (bit-suc p b ∙ r .2 .0, shr-half x b ∙ r .2 .1 ∙ ap suc (sym (shr-half p b)))))
+    let (b, k, (z, e)) = differ n (p / 2) (x / 2) q (omega (arith, pow-suc 2 n)) in
+    (suc b, omega arith, (bit-suc p b ∙ z, shr-half x b ∙ e ∙ ap suc (sym (shr-half p b)))))
     (λ q. (0, zero-lt-suc n, (omega (arith, div-one p), omega (arith, div-one p, div-one x))))
 
 -- and only one, since above it they agree
@@ -75,39 +74,16 @@ one-bit p x b d r q =
 
 -- ---- with the next counter c
 
--- register b is filled when the counter c is next, and x lies under it
-pub record Covers (c x b : ℕ) : Type 0 where
-  pub register : b < 21
-  pub filled : Filled c b
-  pub under : Under x (label c b)
-
-module _ (c : ℕ) (ok : Permitted c) where
-  -- b is the highest bit in which c - 1 and x differ, and x has it
-  covers-above : (x b : ℕ) → b < 21 → (Filled c b × Under x (label c b)) ↔ Above (c - 1) x b
-  covers-above x b h = go (says c (ok .from-one) (ok .fits) b)
-    where
-      go : Says c b → (Filled c b × Under x (label c b)) ↔ Above (c - 1) x b
-      go (is-bare f e) = (λ (g, u). absurd (f g), λ (z, up). absurd (omega arith))
-      go (is-filled f e t) = (
-        λ (g, u). (e, omega (arith, under-bits x (c - 1) b h .0 (subst (Under x) t u), shr-suc (c - 1) b)),
-        λ (z, up). (f, subst (Under x) (sym t) (under-bits x (c - 1) b h .1 (omega (arith, shr-suc (c - 1) b)))),
-      )
-
-  above : (x b : ℕ) → Covers c x b → Above (c - 1) x b
-  above x b r = covers-above x b (r .register) .0 (r .filled, r .under)
-
-  -- each number from c on lies under a filled register, under one only, and none below c lies under any
-  pub some-register : (x : ℕ) → c ≤ x → x < 2 ^ 21 → (b : ℕ) × Covers c x b
-  some-register x h l =
-      let r = differ 21 (c - 1) x (omega arith) l in
-      let g = covers-above x (r .0) (r .1) .1 (r .2) in
-      (r .0, record { register = r .1; filled = g .0; under = g .1 })
-
-  pub only-register : (x b d : ℕ) → Covers c x b → Covers c x d → b ≡ d
-  only-register x b d r q = one-bit (c - 1) x b d (above x b r) (above x d q)
-
-  pub no-earlier : (x b : ℕ) → Covers c x b → c ≤ x
-  no-earlier x b r = by-cases (decLe c x) (λ h. h) (λ h. absurd (omega (arith, above x b r .1, shr-mono {a = x} {b = c - 1} b (omega arith))))
+-- register b is filled, and x lies under it, exactly if b is the highest bit in which c - 1 and x differ, and x has it
+filled-above : (c : ℕ) → Permitted c → (x b : ℕ) → b < 21 → (Filled c b × Under x (label c b)) ↔ Above (c - 1) x b
+filled-above c ok x b h = go (says c (ok .from-one) (ok .fits) b)
+  where
+    go : Says c b → (Filled c b × Under x (label c b)) ↔ Above (c - 1) x b
+    go (is-bare f e) = (λ (g, u). absurd (f g), λ (z, up). absurd (omega arith))
+    go (is-filled f e t) = (
+      λ (g, u). (e, omega (arith, under-bits x (c - 1) b h .0 (subst (Under x) t u), shr-suc (c - 1) b)),
+      λ (z, up). (f, subst (Under x) (sym t) (under-bits x (c - 1) b h .1 (omega (arith, shr-suc (c - 1) b)))),
+    )
 
 -- ---- of a state that hangs together
 
@@ -117,22 +93,27 @@ module _ {K : Type 0} (device : Device K) (s : State K) (valid : Valid device s)
   under-fills x b lies =
       by-cases (fills? device s b) (λ f. f) (λ f. absurd (omega (arith, lies .filled, valid .bare b (lies .register) f .unfilled)))
 
-  covered : (x b : ℕ) → UnderFilled s x b → Covers (s .counter) x b
-  covered x b lies = record { register = lies .register; filled = under-fills x b lies .1; under = lies .under }
+  under-above : (x b : ℕ) → UnderFilled s x b → Above (s .counter - 1) x b
+  under-above x b lies =
+      let (runs, f) = under-fills x b lies in
+      filled-above (s .counter) (runs-counted (valid .counted) runs) x b (lies .register) .0 (f, lies .under)
 
   -- where a number lies under a filled register, there is a next counter, and the number is not below it
   pub under-later : (x b : ℕ) → UnderFilled s x b → (s .exhausted ≡ false) × (s .counter ≤ x)
-  under-later x b lies =
-      let runs = under-fills x b lies .0 in
-      (runs, no-earlier (s .counter) (runs-counted (valid .counted) runs) x b (covered x b lies))
+  under-later x b lies = (
+    under-fills x b lies .0,
+    by-cases (decLe (s .counter) x) (λ h. h)
+        (λ h. absurd (omega (arith, under-above x b lies .1, shr-mono {a = x} {b = s .counter - 1} b (omega arith)))),
+  )
 
   -- and each number from the next counter on lies under exactly one
   pub later-under : (x : ℕ) → s .exhausted ≡ false → s .counter ≤ x → x < 2 ^ 21 → UnderOne s x
   later-under x runs h l =
       let ok = runs-counted (valid .counted) runs in
-      let (b, r) = some-register (s .counter) ok x h l in
+      let (b, k, e) = differ 21 (s .counter - 1) x (omega (arith, ok .from-one)) l in
+      let (f, u) = filled-above (s .counter) ok x b k .1 e in
       record {
         register = b;
-        lies = record { register = r .register; filled = valid .full b (r .register) (runs, r .filled); under = r .under };
-        only = λ d lies. only-register (s .counter) ok x d b (covered x d lies) r;
+        lies = record { register = k; filled = valid .full b k (runs, f); under = u };
+        only = λ d lies. one-bit (s .counter - 1) x d b (under-above x d lies) e;
       }
