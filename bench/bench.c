@@ -293,8 +293,30 @@ static uint64_t plain_host_keys(size_t count)
     uint64_t sum = 0;
     uint8_t out[8];
     for (size_t i = 0; i < count; i++) {
-        must(plain_host_key(keys[i % INPUTS], serials[i % INPUTS], out), "plain_host_key");
+        must(plain_host_key(keys[i % INPUTS], serials[i % INPUTS], 8, out), "plain_host_key");
         sum = add(sum, out);
+    }
+    return sum;
+}
+
+static uint64_t library_double_host_key(size_t count)
+{
+    uint64_t sum = 0;
+    uint8_t out[16];
+    for (size_t i = 0; i < count; i++) {
+        must((int)czg_double_host_key(keys[i % INPUTS], 16, serials[i % INPUTS], 10, out, 16).number, "czg_double_host_key");
+        sum = add(add(sum, out), out + 8);
+    }
+    return sum;
+}
+
+static uint64_t plain_double_host_keys(size_t count)
+{
+    uint64_t sum = 0;
+    uint8_t out[16];
+    for (size_t i = 0; i < count; i++) {
+        must(plain_host_key(keys[i % INPUTS], serials[i % INPUTS], 16, out), "plain_host_key");
+        sum = add(add(sum, out), out + 8);
     }
     return sum;
 }
@@ -320,9 +342,36 @@ static uint64_t plain_next_keys(size_t count)
     uint8_t key[8], serial[10];
     for (size_t i = 0; i < count; i++) {
         if (i % CZG_TERMINAL_KEYS == 0)
-            plain_load(&terminal, keys[0], serials[0]);
+            plain_load(&terminal, keys[0], 8, serials[0]);
         must(plain_next_key(&terminal, key, serial), "plain_next_key");
         sum = add(add(sum, key), serial + 2);
+    }
+    return sum;
+}
+
+static uint64_t library_double_next_key(size_t count)
+{
+    uint64_t sum = 0;
+    uint8_t record[CZG_DOUBLE_RECORD_SIZE], key[16], serial[10];
+    for (size_t i = 0; i < count; i++) {
+        if (i % CZG_TERMINAL_KEYS == 0)
+            must((int)czg_double_terminal_load(keys[0], 16, serials[0], 10, record, sizeof record).number, "czg_double_terminal_load");
+        must((int)czg_double_terminal_next_key(record, sizeof record, key, 16, serial, 10).number, "czg_double_terminal_next_key");
+        sum = add(add(add(sum, key), key + 8), serial + 2);
+    }
+    return sum;
+}
+
+static uint64_t plain_double_next_keys(size_t count)
+{
+    uint64_t sum = 0;
+    plain_terminal terminal;
+    uint8_t key[16], serial[10];
+    for (size_t i = 0; i < count; i++) {
+        if (i % CZG_TERMINAL_KEYS == 0)
+            plain_load(&terminal, keys[0], 16, serials[0]);
+        must(plain_next_key(&terminal, key, serial), "plain_next_key");
+        sum = add(add(add(sum, key), key + 8), serial + 2);
     }
     return sum;
 }
@@ -416,6 +465,10 @@ static const kind kinds[] = {
      {{"library", library_host_key}, {"plain C, OpenSSL", plain_host_keys}}},
     {"terminal's next key, from loading on", "keys", 1, 1,
      {{"library", library_next_key}, {"plain C, OpenSSL", plain_next_keys}}},
+    {"double-length host key, ten one bits", "keys", 1, 20,
+     {{"library", library_double_host_key}, {"plain C, OpenSSL", plain_double_host_keys}}},
+    {"double-length next key, from loading on", "keys", 1, 2,
+     {{"library", library_double_next_key}, {"plain C, OpenSSL", plain_double_next_keys}}},
     {"PIN block, triple DES, with card number", "blocks", 1, 2,
      {{"library", library_pin}, {"plain C, OpenSSL", plain_pin}}},
     {"clear PIN block made and read", "blocks", 1, 1, {{"library", library_clear_pin}}},

@@ -1,4 +1,4 @@
-/* The same work in plain C over OpenSSL's DES (paper 01's rules). */
+/* The same work in plain C over OpenSSL's DES (the rules of papers 01 and 02). */
 #define OPENSSL_SUPPRESS_DEPRECATED
 #include "plain.h"
 
@@ -32,72 +32,118 @@ static void put_counter(uint8_t data[8], uint32_t counter)
     data[7] = (uint8_t)counter;
 }
 
-/* One-way step: the key of a counter from the key without its last one bit. */
-static void step(const uint8_t key[8], const uint8_t serial[10], uint32_t counter, uint8_t out[8])
+/* A double-length key with C0C0C0C000000000 exclusive-or'd into both halves. */
+static void masked(const uint8_t key[16], uint8_t out[16])
+{
+    for (int i = 0; i < 16; i++)
+        out[i] = (uint8_t)(key[i] ^ (i % 8 < 4 ? 0xC0 : 0));
+}
+
+/* Data exclusive-or the right half, encrypted under the left half, exclusive-or the right half again. */
+static void one_way(const uint8_t left[8], const uint8_t right[8], const uint8_t data[8], uint8_t out[8])
+{
+    uint8_t block[8];
+    for (int i = 0; i < 8; i++)
+        block[i] = data[i] ^ right[i];
+    des(left, block, block);
+    for (int i = 0; i < 8; i++)
+        out[i] = block[i] ^ right[i];
+}
+
+/*
+ * One-way step: the key of a counter from the key without its last one bit. A single-length key is both halves; of a
+ * double-length one the new right half comes from the key, the new left half from the masked key.
+ */
+static void step(const uint8_t *key, size_t key_size, const uint8_t serial[10], uint32_t counter, uint8_t *out)
 {
     uint8_t data[8];
     memcpy(data, serial + 2, 8);
     put_counter(data, counter);
-    for (int i = 0; i < 8; i++)
-        data[i] ^= key[i];
-    uint8_t encrypted[8];
-    des(key, data, encrypted);
-    for (int i = 0; i < 8; i++)
-        out[i] = encrypted[i] ^ key[i];
+    if (key_size == 8) {
+        one_way(key, key, data, out);
+        return;
+    }
+    uint8_t other[16];
+    masked(key, other);
+    one_way(key, key + 8, data, out + 8);
+    one_way(other, other + 8, data, out);
 }
 
-int plain_host_key(const uint8_t derivation[16], const uint8_t serial[10], uint8_t out[8])
+/* The key given out for a register key: FF exclusive-or'd into the last byte of each half. */
+static void give_out(const uint8_t *key, size_t key_size, uint8_t *out)
 {
-    if (memcmp(derivation, derivation + 8, 8) == 0)
+    for (size_t at = 0; at < key_size; at += 8) {
+        memcpy(out + at, key + at, 8);
+        out[at + 7] ^= 0xFF;
+    }
+}
+
+/* Whether the halves of a key agree without the low bit of each byte. */
+static int same_halves(const uint8_t key[16])
+{
+    for (int i = 0; i < 8; i++)
+        if (key[i] >> 1 != key[i + 8] >> 1)
+            return 0;
+    return 1;
+}
+
+int plain_host_key(const uint8_t derivation[16], const uint8_t serial[10], size_t key_size, uint8_t *out)
+{
+    if (same_halves(derivation))
         return 9;
     uint32_t counter = (uint32_t)(serial[7] & 0x1F) << 16 | (uint32_t)serial[8] << 8 | serial[9];
     if (counter == 0 || __builtin_popcount(counter) > 10)
         return 10;
-    uint8_t key[8];
-    memcpy(key, serial, 8);
-    key[7] &= 0xE0;
-    triple(derivation, key, key);
+    uint8_t cleared[8], key[16];
+    memcpy(cleared, serial, 8);
+    cleared[7] &= 0xE0;
+    triple(derivation, cleared, key);
+    if (key_size == 16) {
+        uint8_t other[16];
+        masked(derivation, other);
+        triple(other, cleared, key + 8);
+    }
     uint32_t set = 0;
     for (uint32_t left = counter; left != 0;) {
         uint32_t bit = 1u << (31 - __builtin_clz(left));
         left ^= bit;
         set |= bit;
-        step(key, serial, set, key);
+        step(key, key_size, serial, set, key);
     }
-    memcpy(out, key, 8);
-    out[7] ^= 0xFF;
+    give_out(key, key_size, out);
     return 0;
 }
 
-void plain_load(plain_terminal *terminal, const uint8_t initial[8], const uint8_t serial[10])
+void plain_load(plain_terminal *terminal, const uint8_t *initial, size_t key_size, const uint8_t serial[10])
 {
+    memset(terminal, 0, sizeof *terminal);
+    terminal->key_size = key_size;
     memcpy(terminal->serial, serial, 10);
     put_counter(terminal->serial + 2, 0);
     terminal->counter = 1;
     for (int b = 0; b < 21; b++)
-        step(initial, terminal->serial, 1u << b, terminal->keys[b]);
+        step(initial, key_size, terminal->serial, 1u << b, terminal->keys[b]);
 }
 
-int plain_next_key(plain_terminal *terminal, uint8_t key[8], uint8_t serial[10])
+int plain_next_key(plain_terminal *terminal, uint8_t *key, uint8_t serial[10])
 {
     uint32_t counter = terminal->counter;
     if (counter == 0)
         return 12;
     int lowest = __builtin_ctz(counter);
-    uint8_t used[8];
-    memcpy(used, terminal->keys[lowest], 8);
-    memset(terminal->keys[lowest], 0, 8);
+    uint8_t used[16];
+    memcpy(used, terminal->keys[lowest], 16);
+    memset(terminal->keys[lowest], 0, 16);
     if (__builtin_popcount(counter) < 10) {
         for (int b = 0; b < lowest; b++)
-            step(used, terminal->serial, counter | 1u << b, terminal->keys[b]);
+            step(used, terminal->key_size, terminal->serial, counter | 1u << b, terminal->keys[b]);
         terminal->counter = counter + 1;
     } else {
         terminal->counter = counter + (1u << lowest);
     }
     if (terminal->counter >> 21)
         terminal->counter = 0;
-    memcpy(key, used, 8);
-    key[7] ^= 0xFF;
+    give_out(used, terminal->key_size, key);
     memcpy(serial, terminal->serial, 10);
     put_counter(serial + 2, counter);
     return 0;

@@ -1,14 +1,14 @@
 #!/usr/bin/env python3
-"""PIN blocks and a terminal's first keys through build/libchizuregwo.so (make shared), by ctypes alone.
+"""PIN blocks and terminals' first keys through build/libchizuregwo.so (make shared), by ctypes alone.
 
 PIN (1234 if not given) and CARD, a card number (4219876543210987), are digits. Writes the clear and the encrypted PIN block, the PIN read back, and
-three keys of a terminal beside the host's.
+three keys of a terminal beside the host's, at single and at double length.
 """
 import ctypes
 import pathlib
 import sys
 
-CZG_DONE, CZG_RECORD_SIZE, CZG_MOST_MEANING = 0, 187, 78
+CZG_DONE, CZG_RECORD_SIZE, CZG_DOUBLE_RECORD_SIZE, CZG_MOST_MEANING = 0, 187, 355, 78
 USAGE = "usage: examples/pin.py [PIN [CARD]]   (make shared first)"
 LIBRARY = pathlib.Path(__file__).resolve().parent.parent / "build" / "libchizuregwo.so"
 
@@ -54,16 +54,29 @@ def call(entry, *inputs, room):
     return out.raw[: answer.length]
 
 
-def next_key(record):
+def next_key(entry, record, key_size):
     """The terminal's next key and its serial number; the record is changed in place."""
-    key, serial = ctypes.create_string_buffer(8), ctypes.create_string_buffer(10)
-    function = library.czg_terminal_next_key
+    key, serial = ctypes.create_string_buffer(key_size), ctypes.create_string_buffer(10)
+    function = getattr(library, entry)
     function.restype = Answer
-    sizes = [ctypes.c_size_t(size) for size in (CZG_RECORD_SIZE, 8, 10)]
+    sizes = [ctypes.c_size_t(len(buffer)) for buffer in (record, key, serial)]
     answer = function(record, sizes[0], key, sizes[1], serial, sizes[2])
     if answer.number != CZG_DONE:
-        refuse("czg_terminal_next_key", answer.number)
+        refuse(entry, answer.number)
     return key.raw, serial.raw
+
+
+def terminal(names, key_size, record_size, derivation_key, serial_number):
+    """Loads a terminal with the host's initial key and compares its first keys with the host's. The entries' names start with NAMES."""
+    initial_key = call(names + "initial_key", derivation_key, serial_number, room=key_size)
+    loaded = call(names + "terminal_load", initial_key, serial_number, room=record_size)
+    record = ctypes.create_string_buffer(loaded, record_size)
+    for _ in range(3):
+        given, serial = next_key(names + "terminal_next_key", record, key_size)
+        host = call(names + "host_key", derivation_key, serial, room=key_size)
+        print("terminal key    ", given.hex().upper(), "serial number", serial.hex().upper(), "host", host.hex().upper())
+        if given != host:
+            sys.exit("the host has another key")
 
 
 pin = sys.argv[1] if len(sys.argv) > 1 else "1234"
@@ -75,14 +88,5 @@ block = call("czg_pin_encrypt_with_card", key, pin, card, room=8)
 print("encrypted block ", block.hex().upper())
 print("PIN             ", call("czg_pin_decrypt_with_card", key, block, card, room=12).decode())
 
-derivation_key = bytes.fromhex("51525457585B5D5E61626467686B6D6E")
-serial_number = bytes.fromhex("0123456789ABCDE00000")
-initial_key = call("czg_initial_key", derivation_key, serial_number, room=8)
-loaded = call("czg_terminal_load", initial_key, serial_number, room=CZG_RECORD_SIZE)
-record = ctypes.create_string_buffer(loaded, CZG_RECORD_SIZE)
-for _ in range(3):
-    given, serial = next_key(record)
-    host = call("czg_host_key", derivation_key, serial, room=8)
-    print("terminal key    ", given.hex().upper(), "serial number", serial.hex().upper(), "host", host.hex().upper())
-    if given != host:
-        sys.exit("the host has another key")
+terminal("czg_", 8, CZG_RECORD_SIZE, bytes.fromhex("51525457585B5D5E61626467686B6D6E"), bytes.fromhex("0123456789ABCDE00000"))
+terminal("czg_double_", 16, CZG_DOUBLE_RECORD_SIZE, bytes.fromhex("0123456789ABCDEFFEDCBA9876543210"), bytes.fromhex("FFFF9876543210E00000"))

@@ -64,6 +64,7 @@ extern "C" {
 #define CZG_DOUBLE_KEY_SIZE 16      /* a double-length key, left half first */
 #define CZG_SERIAL_NUMBER_SIZE 10   /* a serial number; its last 21 bits are the counter */
 #define CZG_RECORD_SIZE 187         /* a terminal's record */
+#define CZG_DOUBLE_RECORD_SIZE 355  /* a double-length terminal's record */
 #define CZG_MOST_TEXT 1024          /* free text */
 #define CZG_MOST_MESSAGE 4096       /* a message */
 #define CZG_MOST_MESSAGE_TEXT 166   /* a message's MAC text */
@@ -81,14 +82,16 @@ extern "C" {
 #define CZG_MOST_MEANING 78         /* the meaning of a number */
 
 /*
- * A terminal's record, 187 bytes:
+ * A terminal's record, 187 bytes at single length and 355 at double length. The parts are the same; a register has 8 bytes,
+ * or 16, left half first.
  *
- *   place  size
- *   0      168   registers 0 to 20, 8 bytes each; register b belongs to the counter bit worth 2 to the power b
- *   168    4     the filled mask, big-endian: bit b is 1 if register b is filled
- *   172    10    the serial number with its counter bits zero
- *   182    4     the counter to be given out next, big-endian; 0 if exhausted
- *   186    1     1 if the terminal is exhausted, otherwise 0
+ *   single length  double length
+ *   place  size    place  size
+ *   0      168     0      336     registers 0 to 20; register b belongs to the counter bit worth 2 to the power b
+ *   168    4       336    4       the filled mask, big-endian: bit b is 1 if register b is filled
+ *   172    10      340    10      the serial number with its counter bits zero
+ *   182    4       350    4       the counter to be given out next, big-endian; 0 if exhausted
+ *   186    1       354    1       1 if the terminal is exhausted, otherwise 0
  *
  * It holds keys: whoever keeps it keeps it secret. An older record handed in again gives old keys again.
  */
@@ -97,6 +100,12 @@ extern "C" {
 #define CZG_RECORD_SERIAL_NUMBER 172
 #define CZG_RECORD_COUNTER 182
 #define CZG_RECORD_EXHAUSTED 186
+
+#define CZG_DOUBLE_RECORD_REGISTERS 0
+#define CZG_DOUBLE_RECORD_FILLED 336
+#define CZG_DOUBLE_RECORD_SERIAL_NUMBER 340
+#define CZG_DOUBLE_RECORD_COUNTER 350
+#define CZG_DOUBLE_RECORD_EXHAUSTED 354
 
 /* What every entry answers but czg_version and those that clean a text. */
 typedef struct czg_answer {
@@ -336,6 +345,46 @@ czg_answer czg_terminal_load(const uint8_t *initial_key, size_t initial_key_size
  */
 czg_answer czg_terminal_next_key(uint8_t *record, size_t record_size, uint8_t *key, size_t key_size,
                                  uint8_t *serial_number, size_t serial_number_size);
+
+/* ---- Terminal keys (DUKPT, double length). Keys have 16 bytes, left half first; all else is as at single length. ---- */
+
+/*
+ * The initial key: the left half is czg_initial_key's, the right half the same under the masked derivation key, with
+ * C0C0C0C000000000 hex exclusive-or'd into both its halves (ANS X9.24-1). Writes 16 bytes. The halves are compared before
+ * that, here and for the host's key.
+ * Refusals: 6 (derivation key, serial number), 9, 13.
+ */
+czg_answer czg_double_initial_key(const uint8_t *derivation_key, size_t derivation_key_size,
+                                  const uint8_t *serial_number, size_t serial_number_size,
+                                  uint8_t *out, size_t out_size);
+
+/*
+ * The host's key for a serial number of 10 bytes with its counter: the register key of that counter with FF hex
+ * exclusive-or'd into the last byte of each half. A one-way step makes the new right half from the key, and the new left
+ * half from the key masked in the same way, each so: the data, exclusive-or the right half, encrypted under the left half,
+ * exclusive-or the right half again. Writes 16 bytes.
+ * Refusals: 6 (derivation key, serial number), 9, 10, 13.
+ */
+czg_answer czg_double_host_key(const uint8_t *derivation_key, size_t derivation_key_size,
+                               const uint8_t *serial_number, size_t serial_number_size, uint8_t *out, size_t out_size);
+
+/*
+ * Loads a terminal: from an initial key of 16 bytes, whose halves are not compared, and a serial number of 10, makes the
+ * record as czg_terminal_load does. Writes 355 bytes.
+ * Refusals: 6 (initial key, serial number), 13.
+ */
+czg_answer czg_double_terminal_load(const uint8_t *initial_key, size_t initial_key_size,
+                                    const uint8_t *serial_number, size_t serial_number_size,
+                                    uint8_t *out, size_t out_size);
+
+/*
+ * The terminal's next key, as czg_terminal_next_key gives it: the record has exactly 355 bytes and the key buffer gets 16;
+ * czg_double_host_key gives the same key, if the terminal was loaded with the initial key of czg_double_initial_key. On
+ * done, length is 16.
+ * Refusals: 6 (record), 11, 12, 13 (key buffer shorter than 16, serial buffer shorter than 10).
+ */
+czg_answer czg_double_terminal_next_key(uint8_t *record, size_t record_size, uint8_t *key, size_t key_size,
+                                        uint8_t *serial_number, size_t serial_number_size);
 
 #ifdef __cplusplus
 }

@@ -72,6 +72,142 @@ static void refused_text(const char *what, czg_text_answer answer, uint32_t numb
     counted(what, answer, 0, 0);
 }
 
+/* An answer must be done with this length. */
+static void done(const char *what, czg_answer answer, size_t length)
+{
+    cases++;
+    if (answer.number != CZG_DONE || answer.length != length) {
+        printf("header: FAILED: %s: number %u, length %zu\n", what, (unsigned)answer.number, answer.length);
+        failures++;
+    }
+}
+
+/* Bytes must be these. */
+static void holds(const char *what, const uint8_t *bytes, size_t size, const uint8_t *wanted)
+{
+    cases++;
+    if (memcmp(bytes, wanted, size) != 0) {
+        printf("header: FAILED: %s: other bytes than were to be\n", what);
+        failures++;
+    }
+}
+
+/* An entry that makes bytes from a key and a serial number. */
+typedef czg_answer derivation(const uint8_t *, size_t, const uint8_t *, size_t, uint8_t *, size_t);
+
+/* The terminals of one length: their entries, the sizes and places that the header has for them, and an example. */
+typedef struct device {
+    const char *name;
+    derivation *initial_key, *host_key, *load;
+    czg_answer (*next_key)(uint8_t *, size_t, uint8_t *, size_t, uint8_t *, size_t);
+    size_t key_size, record_size, registers, filled, serial_number, counter, exhausted;
+    const char *derivation_key, *serial;                /* the serial number has counter 0 */
+    const char *initial, *first_register, *first_key;   /* the register key and the key given out of counter 1 */
+} device;
+
+static const device devices[] = {
+    {"", czg_initial_key, czg_host_key, czg_terminal_load, czg_terminal_next_key,
+     CZG_KEY_SIZE, CZG_RECORD_SIZE, CZG_RECORD_REGISTERS, CZG_RECORD_FILLED, CZG_RECORD_SERIAL_NUMBER, CZG_RECORD_COUNTER,
+     CZG_RECORD_EXHAUSTED, "51525457585B5D5E61626467686B6D6E", "0123456789ABCDE00000",
+     "21EE7C08DBE820AB", "474823EFCD882249", "474823EFCD8822B6"},
+    /* ANS X9.24-1:2004, A.4 */
+    {"double_", czg_double_initial_key, czg_double_host_key, czg_double_terminal_load, czg_double_terminal_next_key,
+     CZG_DOUBLE_KEY_SIZE, CZG_DOUBLE_RECORD_SIZE, CZG_DOUBLE_RECORD_REGISTERS, CZG_DOUBLE_RECORD_FILLED,
+     CZG_DOUBLE_RECORD_SERIAL_NUMBER, CZG_DOUBLE_RECORD_COUNTER, CZG_DOUBLE_RECORD_EXHAUSTED,
+     "0123456789ABCDEFFEDCBA9876543210", "FFFF9876543210E00000",
+     "6AC292FAA1315B4D858AB3A3D7D5933A", "042666B49184CFA368DE9628D0397BC9", "042666B49184CF5C68DE9628D0397B36"},
+};
+
+/* What is called, after the device's name. */
+static const char *of(const device *d, const char *what)
+{
+    static char label[64];
+    snprintf(label, sizeof label, "%s%s", d->name, what);
+    return label;
+}
+
+/* The host's derivations: the example, then each refusal. */
+static void host_keys(const device *d)
+{
+    size_t size = d->key_size, room = sizeof out;
+    uint8_t key[CZG_DOUBLE_KEY_SIZE], serial[CZG_SERIAL_NUMBER_SIZE];
+    memcpy(key, hex(d->derivation_key), sizeof key);
+    memcpy(serial, hex(d->serial), sizeof serial);
+    same(of(d, "initial_key"), d->initial_key(key, 16, serial, 10, out, room), size, hex(d->initial));
+    refused(of(d, "host_key, counter 0"), d->host_key(key, 16, serial, 10, out, room), CZG_BAD_COUNTER);
+    serial[8] = 0x07;
+    serial[9] = 0xFF;
+    same(of(d, "initial_key, eleven ones"), d->initial_key(key, 16, serial, 10, out, room), size, hex(d->initial));
+    refused(of(d, "host_key, eleven ones"), d->host_key(key, 16, serial, 10, out, room), CZG_BAD_COUNTER);
+    serial[8] = 0;
+    serial[9] = 1;
+    same(of(d, "host_key"), d->host_key(key, 16, serial, 10, out, room), size, hex(d->first_key));
+    derivation *const entries[] = {d->initial_key, d->host_key};
+    for (int i = 0; i < 2; i++) {
+        const char *what = of(d, i == 0 ? "initial_key, refused" : "host_key, refused");
+        refused(what, entries[i](key, 15, serial, 10, out, room), CZG_SIZE);
+        refused(what, entries[i](key, 16, serial, 9, out, room), CZG_SIZE);
+        refused(what, entries[i](hex("51525457585B5D5E51525457585B5D5E"), 16, serial, 10, out, room), CZG_EQUAL_HALVES);
+        refused(what, entries[i](hex("51525457585B5D5E50535556595A5C5F"), 16, serial, 10, out, room), CZG_EQUAL_HALVES);
+        refused(what, entries[i](key, 16, serial, 10, out, size - 1), CZG_SHORT_BUFFER);
+    }
+}
+
+/* A terminal: the parts of its record where the header says, its first key, and each refusal, which changes nothing. */
+static void terminal_keys(const device *d)
+{
+    size_t size = d->key_size, record_size = d->record_size;
+    uint8_t record[CZG_DOUBLE_RECORD_SIZE + 1], before[sizeof record], number[CZG_SERIAL_NUMBER_SIZE + 1], serial[CZG_SERIAL_NUMBER_SIZE];
+    memset(record, 0xA5, sizeof record);
+    memset(number, 0xA5, sizeof number);
+    memcpy(before, record, sizeof record);
+    memcpy(serial, hex(d->serial), sizeof serial);
+    serial[9] = 1;
+    refused(of(d, "terminal_load, key"), d->load(hex(d->initial), size - 1, serial, 10, record, sizeof record), CZG_SIZE);
+    refused(of(d, "terminal_load, serial number"), d->load(hex(d->initial), size, serial, 9, record, sizeof record), CZG_SIZE);
+    refused(of(d, "terminal_load, no room"), d->load(hex(d->initial), size, serial, 10, record, record_size - 1), CZG_SHORT_BUFFER);
+    holds(of(d, "terminal_load, refused"), record, sizeof record, before);
+
+    done(of(d, "terminal_load"), d->load(hex(d->initial), size, serial, 10, record, sizeof record), record_size);
+    holds(of(d, "terminal_load, after the record"), record + record_size, 1, hex("A5"));
+    holds(of(d, "terminal_load, register 0"), record + d->registers, size, hex(d->first_register));
+    holds(of(d, "terminal_load, filled mask"), record + d->filled, 4, hex("001FFFFF"));
+    holds(of(d, "terminal_load, serial number"), record + d->serial_number, 10, hex(d->serial));
+    holds(of(d, "terminal_load, counter"), record + d->counter, 4, hex("00000001"));
+    holds(of(d, "terminal_load, exhausted"), record + d->exhausted, 1, hex("00"));
+
+    memcpy(before, record, sizeof record);
+    refused(of(d, "next_key, record"), d->next_key(record, record_size - 1, out, size, number, 10), CZG_SIZE);
+    refused(of(d, "next_key, no room"), d->next_key(record, record_size, out, size - 1, number, 10), CZG_SHORT_BUFFER);
+    refused(of(d, "next_key, no room for the number"), d->next_key(record, record_size, out, size, number, 9), CZG_SHORT_BUFFER);
+    holds(of(d, "next_key, refused: record"), record, sizeof record, before);
+    holds(of(d, "next_key, refused: serial number"), number, sizeof number, hex("A5A5A5A5A5A5A5A5A5A5A5"));
+    same(of(d, "next_key"), d->next_key(record, record_size, out, sizeof out, number, sizeof number), size, hex(d->first_key));
+    holds(of(d, "next_key, serial number"), number, 10, serial);
+    holds(of(d, "next_key, after the number"), number + 10, 1, hex("A5"));
+    holds(of(d, "next_key, counter"), record + d->counter, 4, hex("00000002"));
+    holds(of(d, "next_key, filled mask"), record + d->filled, 4, hex("001FFFFE"));
+
+    memset(record, 0, sizeof record);
+    refused(of(d, "next_key, zeros"), d->next_key(record, record_size, out, size, number, 10), CZG_BAD_RECORD);
+    record[d->exhausted] = 1;
+    refused(of(d, "next_key, exhausted"), d->next_key(record, record_size, out, size, number, 10), CZG_EXHAUSTED);
+}
+
+/* PIN blocks under the double-length keys of counters 1 to 7 (ANS X9.24-1:2004, A.4). */
+static void published_pin_blocks(const device *d)
+{
+    static const char *const blocks[] = {"1B9C1845EB993A7A", "10A01C8D02C69107", "18DC07B94797B466", "0BC79509D5645DF7",
+                                         "5BC0AF22AD87B327", "A16DF70AE36158D8", "27711C16CB257F8E"};
+    uint8_t record[CZG_DOUBLE_RECORD_SIZE], key[CZG_DOUBLE_KEY_SIZE], number[CZG_SERIAL_NUMBER_SIZE];
+    d->load(hex(d->initial), sizeof key, hex(d->serial), 10, record, sizeof record);
+    for (size_t i = 0; i < sizeof blocks / sizeof blocks[0]; i++) {
+        d->next_key(record, sizeof record, key, sizeof key, number, sizeof number);
+        same("published PIN block", czg_pin_encrypt_with_card(key, sizeof key, text("1234"), 4, text("4012345678909"), 13, out, sizeof out),
+             8, hex(blocks[i]));
+    }
+}
+
 int main(void)
 {
     static const char card_digits[] = "4219876543210987", message[] = "\x04\0\0\0" "0200";
@@ -160,34 +296,15 @@ int main(void)
     same("arpc", czg_arpc(hex("D4102725E6E5AD329E55AAB50BF23DA9"), 16, hex("5D016C91005E7CC2"), 8, text("01"), 2, out, room),
          8, hex("21415243527CE78F"));
 
-    const char *derivation = "51525457585B5D5E61626467686B6D6E", *serial = "0123456789ABCDF00001";
-    same("initial_key", czg_initial_key(hex(derivation), 16, hex(serial), 10, out, room), 8, hex("21EE7C08DBE820AB"));
-    same("host_key", czg_host_key(hex(derivation), 16, hex(serial), 10, out, room), 8, hex("670B395E6CFB60C2"));
-    refused("host_key, halves", czg_host_key(hex("51525457585B5D5E51525457585B5D5E"), 16, hex(serial), 10, out, room), CZG_EQUAL_HALVES);
-    refused("host_key, low bits", czg_host_key(hex("51525457585B5D5E50535556595A5C5F"), 16, hex(serial), 10, out, room), CZG_EQUAL_HALVES);
-    refused("initial_key, low bit", czg_initial_key(hex("51525457585B5D5E51525457585B5D5F"), 16, hex(serial), 10, out, room), CZG_EQUAL_HALVES);
-    refused("host_key, counter", czg_host_key(hex(derivation), 16, hex("0123456789ABCDE00000"), 10, out, room), CZG_BAD_COUNTER);
-
-    /* The terminal's first key is the host's for counter 1; its record has its parts where the header says. */
-    uint8_t record[CZG_RECORD_SIZE], host[8], number[CZG_SERIAL_NUMBER_SIZE] = {0};
-    czg_answer loaded = czg_terminal_load(hex("21EE7C08DBE820AB"), 8, hex(serial), 10, record, sizeof record);
-    memcpy(out, record + CZG_RECORD_SERIAL_NUMBER, 10);
-    loaded.length = loaded.length == CZG_RECORD_SIZE ? 10 : 0;
-    same("terminal_load", loaded, 10, hex("0123456789ABCDE00000"));
-    memcpy(out, record + CZG_RECORD_FILLED, 4);
-    loaded.length = 4;
-    same("filled mask", loaded, 4, hex("001FFFFF"));
-    czg_host_key(hex(derivation), 16, hex("0123456789ABCDE00001"), 10, host, 8);
-    refused("next_key, no room", czg_terminal_next_key(record, sizeof record, out, 8, number, 9), CZG_SHORT_BUFFER);
-    same("next_key", czg_terminal_next_key(record, sizeof record, out, room, number, sizeof number), 8, host);
-    memcpy(out, number, 10);
-    same("serial number", (czg_answer){CZG_DONE, 10}, 10, hex("0123456789ABCDE00001"));
-    memcpy(out, record + CZG_RECORD_COUNTER, 4);
-    same("counter", (czg_answer){CZG_DONE, 4}, 4, hex("00000002"));
-    memset(record, 0, sizeof record);
-    refused("next_key, zeros", czg_terminal_next_key(record, sizeof record, out, 8, number, 10), CZG_BAD_RECORD);
-    record[CZG_RECORD_EXHAUSTED] = 1;
-    refused("next_key, exhausted", czg_terminal_next_key(record, sizeof record, out, 8, number, 10), CZG_EXHAUSTED);
+    same("host_key, counter 100001", czg_host_key(hex("51525457585B5D5E61626467686B6D6E"), 16, hex("0123456789ABCDF00001"), 10, out, room),
+         8, hex("670B395E6CFB60C2"));
+    refused("initial_key, low bit", czg_initial_key(hex("51525457585B5D5E51525457585B5D5F"), 16, hex("0123456789ABCDF00001"), 10, out, room),
+            CZG_EQUAL_HALVES);
+    for (size_t i = 0; i < sizeof devices / sizeof devices[0]; i++) {
+        host_keys(&devices[i]);
+        terminal_keys(&devices[i]);
+    }
+    published_pin_blocks(&devices[1]);
 
     if (failures == 0)
         printf("header: %d calls are as they must be\n", cases);

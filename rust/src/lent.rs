@@ -125,13 +125,26 @@ extern "C" {
         out: Buffer, out_size: usize) -> Answer;
     fn czg_terminal_next_key(record: Buffer, record_size: usize, key: Buffer, key_size: usize,
         serial_number: Buffer, serial_number_size: usize) -> Answer;
+    fn czg_double_initial_key(derivation_key: Bytes, derivation_key_size: usize,
+        serial_number: Bytes, serial_number_size: usize, out: Buffer, out_size: usize) -> Answer;
+    fn czg_double_host_key(derivation_key: Bytes, derivation_key_size: usize,
+        serial_number: Bytes, serial_number_size: usize, out: Buffer, out_size: usize) -> Answer;
+    fn czg_double_terminal_load(initial_key: Bytes, initial_key_size: usize,
+        serial_number: Bytes, serial_number_size: usize, out: Buffer, out_size: usize) -> Answer;
+    fn czg_double_terminal_next_key(record: Buffer, record_size: usize, key: Buffer, key_size: usize,
+        serial_number: Buffer, serial_number_size: usize) -> Answer;
 }
 
-/// Calls an entry on some slices, a number where it takes one, and the buffer that it writes.
+/// Calls an entry on some slices, a number where it takes one, and the buffer that it writes; or on the buffers that it
+/// changes.
 macro_rules! call {
     ($entry:ident($($bytes:ident),* $(; $number:ident)?) into $out:ident) => {
         // SAFETY: each pointer and size are those of one slice, and `out`, being lent to be changed, overlaps none.
         unsafe { $entry($($bytes.as_ptr(), $bytes.len(),)* $($number,)? $out.as_mut_ptr(), $out.len()) }.result()
+    };
+    ($entry:ident changing $($buffer:ident),*) => {
+        // SAFETY: each pointer and size are those of one slice; lent to be changed, they do not overlap.
+        unsafe { $entry($($buffer.as_mut_ptr(), $buffer.len()),*) }.result()
     };
 }
 
@@ -325,18 +338,44 @@ pub fn terminal_next_key(
     key: &mut [u8],
     serial_number: &mut [u8],
 ) -> Result<usize, Error> {
-    // SAFETY: each pointer and size are those of one slice; lent to be changed, they do not overlap.
-    unsafe {
-        czg_terminal_next_key(
-            record.as_mut_ptr(),
-            record.len(),
-            key.as_mut_ptr(),
-            key.len(),
-            serial_number.as_mut_ptr(),
-            serial_number.len(),
-        )
-    }
-    .result()
+    call!(czg_terminal_next_key changing record, key, serial_number)
+}
+
+/// [`double_initial_key`](crate::double_initial_key) into a buffer.
+pub fn double_initial_key(
+    derivation_key: &[u8],
+    serial_number: &[u8],
+    out: &mut [u8],
+) -> Result<usize, Error> {
+    call!(czg_double_initial_key(derivation_key, serial_number) into out)
+}
+
+/// [`double_host_key`](crate::double_host_key) into a buffer.
+pub fn double_host_key(
+    derivation_key: &[u8],
+    serial_number: &[u8],
+    out: &mut [u8],
+) -> Result<usize, Error> {
+    call!(czg_double_host_key(derivation_key, serial_number) into out)
+}
+
+/// [`DoubleTerminal::load`](crate::DoubleTerminal::load) into a buffer: the record.
+pub fn double_terminal_load(
+    initial_key: &[u8],
+    serial_number: &[u8],
+    out: &mut [u8],
+) -> Result<usize, Error> {
+    call!(czg_double_terminal_load(initial_key, serial_number) into out)
+}
+
+/// [`DoubleTerminal::next_key`](crate::DoubleTerminal::next_key) on a record of 355 bytes, changed in place, with the key
+/// and the serial number into buffers.
+pub fn double_terminal_next_key(
+    record: &mut [u8],
+    key: &mut [u8],
+    serial_number: &mut [u8],
+) -> Result<usize, Error> {
+    call!(czg_double_terminal_next_key changing record, key, serial_number)
 }
 
 #[cfg(test)]

@@ -16,7 +16,9 @@ pub mod lent;
 mod terminal;
 
 pub use error::Error;
-pub use terminal::{NextKey, SerialNumber, Terminal, RECORD_SIZE};
+pub use terminal::{
+    DoubleTerminal, NextKey, SerialNumber, Terminal, DOUBLE_RECORD_SIZE, RECORD_SIZE,
+};
 
 use lent::WrittenText;
 
@@ -512,4 +514,36 @@ pub fn initial_key(derivation_key: &[u8], serial_number: &[u8]) -> Result<Block,
 /// ```
 pub fn host_key(derivation_key: &[u8], serial_number: &[u8]) -> Result<Block, Error> {
     fixed(|out| lent::host_key(derivation_key, serial_number, out))
+}
+
+/// The initial key of a double-length terminal: the left half is [`initial_key`]'s, the right half the same under the
+/// derivation key with C0C0C0C000000000 exclusive-or'd into both its halves. The halves of the derivation key are compared
+/// before that. Refusals: 6, 9.
+///
+/// ```
+/// use chizuregwo::{double_initial_key, initial_key, key_entry};
+/// let derivation_key = key_entry(b"0123456789ABCDEFFEDCBA9876543210", 16)?;
+/// let serial_number = [0xFF, 0xFF, 0x98, 0x76, 0x54, 0x32, 0x10, 0xE0, 0, 0];
+/// let key = double_initial_key(&derivation_key, &serial_number)?;
+/// assert_eq!(key.to_vec(), key_entry(b"6AC292FAA1315B4D858AB3A3D7D5933A", 16)?);
+/// assert_eq!(key[..8], initial_key(&derivation_key, &serial_number)?);
+/// # Ok::<(), chizuregwo::Error>(())
+/// ```
+pub fn double_initial_key(derivation_key: &[u8], serial_number: &[u8]) -> Result<DoubleKey, Error> {
+    fixed(|out| lent::double_initial_key(derivation_key, serial_number, out))
+}
+
+/// The host's key for a double-length terminal and a serial number of 10 bytes with its counter, under a derivation key of
+/// 16. Refusals: 6, 9, 10.
+///
+/// ```
+/// use chizuregwo::{double_host_key, key_entry};
+/// let derivation_key = key_entry(b"0123456789ABCDEFFEDCBA9876543210", 16)?;
+/// let serial_number = [0xFF, 0xFF, 0x98, 0x76, 0x54, 0x32, 0x10, 0xE0, 0, 1];
+/// let key = double_host_key(&derivation_key, &serial_number)?;
+/// assert_eq!(key.to_vec(), key_entry(b"042666B49184CF5C68DE9628D0397B36", 16)?);
+/// # Ok::<(), chizuregwo::Error>(())
+/// ```
+pub fn double_host_key(derivation_key: &[u8], serial_number: &[u8]) -> Result<DoubleKey, Error> {
+    fixed(|out| lent::double_host_key(derivation_key, serial_number, out))
 }

@@ -3,7 +3,7 @@
 mod common;
 
 use chizuregwo::*;
-use common::{hex, DERIVATION_KEY, SERIAL_NUMBER};
+use common::{hex, DERIVATION_KEY, DOUBLE_DERIVATION_KEY, DOUBLE_SERIAL_NUMBER, SERIAL_NUMBER};
 use std::fmt::Debug;
 
 const CARD: &[u8] = b"4219876543210987";
@@ -502,11 +502,12 @@ fn card_keys_and_cryptograms() {
     assert_eq!(arpc(&session, &[0; 7], b"00"), Err(Error::Size));
 }
 
-#[test]
-fn host_keys() {
+/// A derivation of the host: of a derivation key and a serial number.
+type Derivation<const N: usize> = fn(&[u8], &[u8]) -> Result<[u8; N], Error>;
+
+/// The refusals of the initial key and of the host's key, at either length.
+fn derivations_refuse<const N: usize>(initial_key: Derivation<N>, host_key: Derivation<N>) {
     let (derivation, serial) = (hex(DERIVATION_KEY), hex(SERIAL_NUMBER));
-    same(initial_key(&derivation, &serial), "21EE7C08DBE820AB");
-    same(host_key(&derivation, &serial), "670B395E6CFB60C2");
     let equal = [&derivation[..8], &derivation[..8]].concat();
     let halves = |turned: [u8; 8]| -> Vec<u8> {
         let right = derivation.iter().zip(turned).map(|(byte, bit)| byte ^ bit);
@@ -529,6 +530,33 @@ fn host_keys() {
     let eleven = hex("0123456789ABCDE007FF");
     assert_eq!(host_key(&derivation, &eleven), Err(Error::BadCounter));
     assert!(initial_key(&derivation, &eleven).is_ok());
+}
+
+#[test]
+fn host_keys() {
+    let (derivation, serial) = (hex(DERIVATION_KEY), hex(SERIAL_NUMBER));
+    same(initial_key(&derivation, &serial), "21EE7C08DBE820AB");
+    same(host_key(&derivation, &serial), "670B395E6CFB60C2");
+    derivations_refuse(initial_key, host_key);
+}
+
+#[test]
+fn double_host_keys() {
+    let (derivation, mut serial) = (hex(DOUBLE_DERIVATION_KEY), hex(DOUBLE_SERIAL_NUMBER));
+    let initial = "6AC292FAA1315B4D858AB3A3D7D5933A";
+    same(double_initial_key(&derivation, &serial), initial);
+    same(initial_key(&derivation, &serial), &initial[..16]);
+    serial[9] = 1;
+    let given_out = "042666B49184CF5C68DE9628D0397B36";
+    same(double_host_key(&derivation, &serial), given_out);
+    same(double_initial_key(&derivation, &serial), initial);
+    in_every_room(&hex(initial), 16, |out| {
+        lent::double_initial_key(&derivation, &serial, out)
+    });
+    in_every_room(&hex(given_out), 16, |out| {
+        lent::double_host_key(&derivation, &serial, out)
+    });
+    derivations_refuse(double_initial_key, double_host_key);
 }
 
 #[test]

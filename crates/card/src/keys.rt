@@ -18,21 +18,15 @@ pub(crate) fn triple_encrypt(key: &[u8], block: u64) -> u64
 fn derived_key(key: &[u8], first: u64, second: u64) -> lent::DoubleBlock
     ensures { λ r. ⌜ Answered 16 (done (derivedKey (now (key .entry)) first second)) (r .number) (r .value) ⌝ }
 {
-    let mut value = [0u8; 16];
-    lent::lend_word(triple_encrypt(key, first), &mut value);
-    lent::lend_word(triple_encrypt(key, second), &mut value[8..]);
-    lent::DoubleBlock {
-        number: lent::DONE,
-        value,
-    }
+    lent::double_block_of(triple_encrypt(key, first), triple_encrypt(key, second))
 }
 
 // The card key of a card number and sequence under the master key, before its parity is set. Refuses with 6 if the master key does not have 16
 // bytes, the card number does not have 13 to 19 characters or the sequence is above 99, 7 if a character is not a digit.
-pub fn unadjusted_card_key(master: &[u8], card: &[u8], sequence: u32) -> lent::DoubleBlock
-    ensures { λ r. ⌜ Answered 16 (Entries.unadjustedCardKey (now (master .entry)) (now (card .entry)) sequence) (r .number) (r .value) ⌝ }
+pub fn unadjusted_card_key(master_key: &[u8], card: &[u8], sequence: u32) -> lent::DoubleBlock
+    ensures { λ r. ⌜ Answered 16 (Entries.unadjustedCardKey (now («master_key» .entry)) (now (card .entry)) sequence) (r .number) (r .value) ⌝ }
 {
-    if master.len() != 16 {
+    if master_key.len() != 16 {
         return lent::refused_double_block(lent::SIZE);
     }
     let data = derivation_data(card, sequence);
@@ -41,14 +35,14 @@ pub fn unadjusted_card_key(master: &[u8], card: &[u8], sequence: u32) -> lent::D
     }
     let bytes = data.value;
     let y = lent::word_of(&bytes);
-    derived_key(master, y, !y)
+    derived_key(master_key, y, !y)
 }
 
 // The card key, adjusted to an odd number of ones in every byte. Refuses with 6 and 7 as the unadjusted one.
-pub fn card_key(master: &[u8], card: &[u8], sequence: u32) -> lent::DoubleBlock
-    ensures { λ r. ⌜ Answered 16 (Entries.cardKey (now (master .entry)) (now (card .entry)) sequence) (r .number) (r .value) ⌝ }
+pub fn card_key(master_key: &[u8], card: &[u8], sequence: u32) -> lent::DoubleBlock
+    ensures { λ r. ⌜ Answered 16 (Entries.cardKey (now («master_key» .entry)) (now (card .entry)) sequence) (r .number) (r .value) ⌝ }
 {
-    let key = unadjusted_card_key(master, card, sequence);
+    let key = unadjusted_card_key(master_key, card, sequence);
     if key.number != lent::DONE {
         return lent::refused_double_block(key.number);
     }

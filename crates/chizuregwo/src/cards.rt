@@ -15,27 +15,27 @@ pub extern "C" fn czg_derivation_data(card: &[u8], sequence: u32, out: &mut [u8]
 // The card key, 16 bytes, with an odd number of ones in each. Refuses with 6, 7, 13.
 #[no_mangle]
 pub extern "C" fn czg_card_key(
-    master: &[u8],
+    master_key: &[u8],
     card: &[u8],
     sequence: u32,
     out: &mut [u8],
 ) -> lent::Answer
-    ensures { λ r. ⌜ Written (Entries.cardKey (now (master .entry)) (now (card .entry)) sequence) (now (out .entry)) (r .number) (r .length) (now (out .exit)) ⌝ }
+    ensures { λ r. ⌜ Written (Entries.cardKey (now («master_key» .entry)) (now (card .entry)) sequence) (now (out .entry)) (r .number) (r .length) (now (out .exit)) ⌝ }
 {
-    lend_double_block(card::card_key(master, card, sequence), out)
+    lend_double_block(card::card_key(master_key, card, sequence), out)
 }
 
 // The card key before its parity is set, 16 bytes. Refuses with 6, 7, 13.
 #[no_mangle]
 pub extern "C" fn czg_card_key_unadjusted(
-    master: &[u8],
+    master_key: &[u8],
     card: &[u8],
     sequence: u32,
     out: &mut [u8],
 ) -> lent::Answer
-    ensures { λ r. ⌜ Written (Entries.unadjustedCardKey (now (master .entry)) (now (card .entry)) sequence) (now (out .entry)) (r .number) (r .length) (now (out .exit)) ⌝ }
+    ensures { λ r. ⌜ Written (Entries.unadjustedCardKey (now («master_key» .entry)) (now (card .entry)) sequence) (now (out .entry)) (r .number) (r .length) (now (out .exit)) ⌝ }
 {
-    lend_double_block(card::unadjusted_card_key(master, card, sequence), out)
+    lend_double_block(card::unadjusted_card_key(master_key, card, sequence), out)
 }
 
 // The session key of a transaction counter, 16 bytes. Refuses with 6, 13.

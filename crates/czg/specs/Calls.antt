@@ -15,12 +15,13 @@ use Rattle.vip.specs.Vip
 use Rattle.card.specs.Entries as Card
 use Rattle.registers.specs.Host.{initialKey, hostKey}
 use Rattle.host.specs.SingleLength.{singleLength}
+use Rattle.doublehost.specs.DoubleLength.{doubleLength}
 use Rattle.recordbytes.specs.Calls.{loadedBytes}
 use Rattle.meanings.specs.Meanings.{meaning}
 
 -- The answers of the table's entries, in its order, from the inputs a, b and c and the number x. (A sequence is below 2 to the power 32 and a
--- counter below 2 to the power 16.) The last entry, a terminal's next key, has its own promise, `Called` of `recordbytes`. The
--- self-test is no entry; its promise is the cipher's.
+-- counter below 2 to the power 16.) The last two entries, a terminal's next key, have their own promise, `Next` of
+-- `recordbytes`. The self-test is no entry; its promise is the cipher's.
 unfoldable pub answers : List ℕ → List ℕ → List ℕ → ℕ → List (Result (List ℕ))
 answers a b c x =
     encryptBlock a b
@@ -51,6 +52,9 @@ answers a b c x =
     ∷ initialKey singleLength a b
     ∷ hostKey singleLength a b
     ∷ loadedBytes singleLength a b
+    ∷ initialKey doubleLength a b
+    ∷ hostKey doubleLength a b
+    ∷ loadedBytes doubleLength a b
     ∷ meaning (x % 4294967296)
     ∷ []
 

@@ -22,11 +22,20 @@ ghost use Rattle.cleaning.specs.Counts.{WrittenText};
 ghost use Rattle.czg.specs.Calls.{answerAt, textAt};
 ghost use Rattle.czg.specs.Private.{Within, answerFor, textFor};
 
-// The place of `terminal-next-key`, which has two values and a record to be changed.
-pub(crate) const NEXT_KEY: usize = 29;
+// The places of `terminal-next-key` and `double-terminal-next-key`, which have two values and a record to be changed.
+const NEXT_KEY: usize = 32;
+const DOUBLE_NEXT_KEY: usize = 33;
 
 // The place of `self-test`, which has no value.
-pub(crate) const SELF_TEST: usize = 30;
+pub(crate) const SELF_TEST: usize = 34;
+
+// Whether a request is for a terminal's next key.
+pub(crate) fn is_next_key(place: usize) -> bool {
+    match place {
+        NEXT_KEY | DOUBLE_NEXT_KEY => true,
+        _ => false,
+    }
+}
 
 // The cipher and key entry.
 fn cipher_entry(place: usize, a: &[u8], b: &[u8], c: &[u8], x: u64, out: &mut [u8]) -> lent::Answer
@@ -97,9 +106,9 @@ fn password_or_vip_entry(
     }
 }
 
-// A card's keys and cryptograms; the host's derivations; the loading of a terminal; a number's meaning. Numbers are in their range, as they were read.
-fn key_entry(place: usize, a: &[u8], b: &[u8], c: &[u8], x: u64, out: &mut [u8]) -> lent::Answer
-    requires { ⌜ (19 ≤ place) × (place < 29) ⌝ }
+// A card's keys and cryptograms. Numbers are in their range, as they were read.
+fn card_entry(place: usize, a: &[u8], b: &[u8], c: &[u8], x: u64, out: &mut [u8]) -> lent::Answer
+    requires { ⌜ (19 ≤ place) × (place < 25) ⌝ }
     ensures { λ r. ⌜ Written (answerAt place (now (a .entry)) (now (b .entry)) (now (c .entry)) x) (now (out .entry)) (r .number) (r .length) (now (out .exit)) ⌝ }
 {
     match place {
@@ -108,17 +117,36 @@ fn key_entry(place: usize, a: &[u8], b: &[u8], c: &[u8], x: u64, out: &mut [u8])
         21 => cards::czg_card_key_unadjusted(a, b, (x % 4294967296) as u32, out),
         22 => cards::czg_session_key(a, (x % 65536) as u16, out),
         23 => cards::czg_arqc(a, b, out),
-        24 => cards::czg_arpc(a, b, c, out),
+        _ => cards::czg_arpc(a, b, c, out),
+    }
+}
+
+// The host's derivations and the loading of a terminal, of single and of double length; a number's meaning.
+fn terminal_entry(
+    place: usize,
+    a: &[u8],
+    b: &[u8],
+    c: &[u8],
+    x: u64,
+    out: &mut [u8],
+) -> lent::Answer
+    requires { ⌜ (25 ≤ place) × (place < 32) ⌝ }
+    ensures { λ r. ⌜ Written (answerAt place (now (a .entry)) (now (b .entry)) (now (c .entry)) x) (now (out .entry)) (r .number) (r .length) (now (out .exit)) ⌝ }
+{
+    match place {
         25 => hosts::czg_initial_key(a, b, out),
         26 => hosts::czg_host_key(a, b, out),
         27 => terminals::czg_terminal_load(a, b, out),
+        28 => hosts::czg_double_initial_key(a, b, out),
+        29 => hosts::czg_double_host_key(a, b, out),
+        30 => terminals::czg_double_terminal_load(a, b, out),
         _ => messages::czg_meaning((x % 4294967296) as u32, out),
     }
 }
 
 // Calls an entry that writes one value. One that cleans no text throws nothing away.
 fn call(place: usize, a: &[u8], b: &[u8], c: &[u8], x: u64, out: &mut [u8]) -> cleaning::TextAnswer
-    requires { ⌜ place < 29 ⌝ }
+    requires { ⌜ place < 32 ⌝ }
     ensures { λ r. ⌜ WrittenText (answerAt place (now (a .entry)) (now (b .entry)) (now (c .entry)) x) (textAt place (now (a .entry)) (now (b .entry))) (now (out .entry)) r (now (out .exit)) ⌝ }
 {
     if place < 3 {
@@ -133,13 +161,16 @@ fn call(place: usize, a: &[u8], b: &[u8], c: &[u8], x: u64, out: &mut [u8]) -> c
     if place < 19 {
         return cleaning::counted(password_or_vip_entry(place, a, b, c, x, out), 0, 0);
     }
-    cleaning::counted(key_entry(place, a, b, c, x, out), 0, 0)
+    if place < 25 {
+        return cleaning::counted(card_entry(place, a, b, c, x, out), 0, 0);
+    }
+    cleaning::counted(terminal_entry(place, a, b, c, x, out), 0, 0)
 }
 
 // Whether an entry's value is a text, a PIN, a password or a VIP number.
 fn is_text(place: usize) -> bool {
     match place {
-        3 | 4 | 9 | 10 | 13 | 14 | 16 | 18 | 28 => true,
+        3 | 4 | 9 | 10 | 13 | 14 | 16 | 18 | 31 => true,
         _ => false,
     }
 }
@@ -183,7 +214,7 @@ fn call_with_room(
     bytes: &[u8],
     value: &mut [u8],
 ) -> cleaning::TextAnswer
-    requires { ⌜ place < 29 ⌝ }
+    requires { ⌜ place < 32 ⌝ }
     requires { ⌜ Within i (length (now bytes)) ⌝ }
     requires { ⌜ room ≤ length (now value) ⌝ }
     ensures { λ r. ⌜ WrittenText (answerFor place i (now (bytes .entry))) (textFor place i (now (bytes .entry))) (take room (now (value .entry))) r (take room (now (value .exit))) ⌝ }
@@ -203,7 +234,7 @@ fn call_with_room(
 
 // Answers a request with one value.
 fn answer_one(place: usize, i: Inputs, room: usize, bytes: &[u8], out: &mut [u8], n: usize) -> usize
-    requires { ⌜ place < 29 ⌝ }
+    requires { ⌜ place < 32 ⌝ }
     requires { ⌜ Within i (length (now bytes)) ⌝ }
     requires { ⌜ room ≤ 1024 ⌝ }
     requires { ⌜ n ≤ length (now out) ⌝ }
@@ -215,42 +246,66 @@ fn answer_one(place: usize, i: Inputs, room: usize, bytes: &[u8], out: &mut [u8]
     put_answer(out, n, place, answer, &value[..length])
 }
 
+// How many bytes a terminal's next key has.
+fn key_size(place: usize) -> usize
+    ensures { λ r. ⌜ r ≤ 16 ⌝ }
+{
+    if place == DOUBLE_NEXT_KEY { 16 } else { 8 }
+}
+
 // Calls for a terminal's next key, with so much room lent for the key and for the serial number.
-fn next_key(record: &mut [u8], rooms: Rooms, key: &mut [u8], serial: &mut [u8]) -> u32
+fn next_key(
+    place: usize,
+    record: &mut [u8],
+    rooms: Rooms,
+    key: &mut [u8],
+    serial: &mut [u8],
+) -> u32
     requires { ⌜ (rooms .first ≤ length (now key)) × (rooms .second ≤ length (now serial)) ⌝ }
 {
     let first = rooms.first;
     let second = rooms.second;
-    let answer = terminals::czg_terminal_next_key(record, &mut key[..first], &mut serial[..second]);
-    answer.number
+    let key_room = &mut key[..first];
+    let serial_room = &mut serial[..second];
+    if place == DOUBLE_NEXT_KEY {
+        return terminals::czg_double_terminal_next_key(record, key_room, serial_room).number;
+    }
+    terminals::czg_terminal_next_key(record, key_room, serial_room).number
 }
 
 // Puts the line of a key, its serial number and the record after it.
 fn put_next_key(out: &mut [u8], n: usize, key: &[u8], serial: &[u8], record: &[u8]) -> usize
-    requires { ⌜ (8 ≤ length (now key)) × (10 ≤ length (now serial)) ⌝ }
+    requires { ⌜ 10 ≤ length (now serial) ⌝ }
     requires { ⌜ n ≤ length (now out) ⌝ }
     ensures { λ r. ⌜ r ≤ length (now (out .exit)) ⌝ }
 {
     let k = put(out, n, b"done");
-    let m = put_value(out, k, false, &key[..8]);
+    let m = put_value(out, k, false, key);
     let j = put_value(out, m, false, &serial[..10]);
     let e = put_value(out, j, false, record);
     put(out, e, b"\n")
 }
 
 // Answers a request for a terminal's next key.
-fn answer_next_key(record: &mut [u8], rooms: Rooms, out: &mut [u8], n: usize) -> usize
+fn answer_next_key(
+    place: usize,
+    record: &mut [u8],
+    rooms: Rooms,
+    out: &mut [u8],
+    n: usize,
+) -> usize
     requires { ⌜ (rooms .first ≤ 1024) × (rooms .second ≤ 1024) ⌝ }
     requires { ⌜ n ≤ length (now out) ⌝ }
     ensures { λ r. ⌜ r ≤ length (now (out .exit)) ⌝ }
 {
     let mut key = io::buffer();
     let mut serial = io::buffer();
-    let number = next_key(record, rooms, &mut key, &mut serial);
+    let number = next_key(place, record, rooms, &mut key, &mut serial);
     if number != 0 {
         return put_refused(out, n, number);
     }
-    put_next_key(out, n, &key, &serial, record)
+    let size = key_size(place);
+    put_next_key(out, n, &key[..size], &serial, record)
 }
 
 // Answers a request whose inputs were read.
@@ -274,5 +329,5 @@ pub(crate) fn answer(
         return put_self_test(out, n, cipher::self_test());
     }
     let end = i.end;
-    answer_next_key(&mut bytes[..end], rooms, out, n)
+    answer_next_key(place, &mut bytes[..end], rooms, out, n)
 }

@@ -53,8 +53,12 @@ arpc SESSION-KEY ARQC CODE
 initial-key DERIVATION-KEY SERIAL-NUMBER
 host-key DERIVATION-KEY SERIAL-NUMBER
 terminal-load INITIAL-KEY SERIAL-NUMBER
+double-initial-key DERIVATION-KEY SERIAL-NUMBER
+double-host-key DERIVATION-KEY SERIAL-NUMBER
+double-terminal-load INITIAL-KEY SERIAL-NUMBER
 meaning NUMBER
 terminal-next-key RECORD
+double-terminal-next-key RECORD
 self-test
 # A request is one of these on a line, single spaces between: PIN, CARD, PASSWORD and DIGITS as such, TEXT as such to the end of the line,
 # SIZE, SEQUENCE, COUNTER and NUMBER in decimal, any other in hexadecimal, - for no bytes. For any bytes, what is as such may be hex: and hexadecimal.

@@ -1,9 +1,9 @@
 // The lines of the input, each answered.
 use crate::answers::put;
 use crate::answers::put_unknown;
-use crate::calls::NEXT_KEY;
 use crate::calls::SELF_TEST;
 use crate::calls::answer;
+use crate::calls::is_next_key;
 use crate::faults::NO_NAME;
 use crate::faults::NO_ROOM;
 use crate::faults::NO_VALUE;
@@ -38,7 +38,7 @@ fn answer_request(table: &[u8], line: &[u8], bytes: &mut [u8], out: &mut [u8], n
     if usage.place == SELF_TEST && says_room(head) {
         return put_unknown(out, n, NO_VALUE);
     }
-    let rooms = rooms_of(head, usage.place == NEXT_KEY);
+    let rooms = rooms_of(head, is_next_key(usage.place));
     if !rooms.lent {
         return put_unknown(out, n, NO_ROOM);
     }

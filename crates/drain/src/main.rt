@@ -1,113 +1,38 @@
-// One terminal from loading to exhaustion, each key compared with the host's (source document 002's derivation key and serial number).
-use terminal::Terminal;
+// One terminal of each length from loading to exhaustion, each key compared with the host's: source document 002's derivation key and serial
+// number for single length, ANS X9.24-1's for double length.
+mod seen;
+use doublehost::DoubleKey;
+use seen::nothing;
+use seen::report;
+use seen::text;
+use seen::with_key;
 
-// What was seen of the keys so far.
-struct Seen {
-    keys: u64,
-    differed: u64,
-    first: u64,
-    first_counter: u32,
-    last: u64,
-    last_counter: u32,
-    checksum: u64,
-}
-
-// Writes a text, and gives whether all of it was written.
-fn text(s: &[u8]) -> bool {
-    console::write(b"drain", s) == s.len()
-}
-
-// Writes the hexadecimal digits of up to eight bytes.
-fn digits(s: &[u8]) -> bool {
-    let mut room = [0u8; 16];
-    let made = keyentry::append_text(&mut room, 0, s);
-    let k = made.length;
-    text(&room[..k])
-}
-
-// Writes a number in decimal.
-fn number(n: u64) -> bool {
-    let mut room = [0u8; 20];
-    let k = io::decimal(n, &mut room);
-    text(&room[..k])
-}
-
-// Writes a line: what it is, and a number.
-fn count_line(what: &[u8], n: u64) -> bool {
-    text(what) && number(n) && text(b"\n")
-}
-
-// Writes a line: what it is, and a key.
-fn word_line(what: &[u8], key: u64) -> bool {
-    text(what) && digits(&lent::bytes_of(key)) && text(b"\n")
-}
-
-// Writes a line: what it is, a key, and its counter in hexadecimal.
-fn key_line(what: &[u8], key: u64, counter: u32) -> bool {
-    let x = counter % 0x1000000;
-    let shown = [(x / 65536) as u8, (x / 256 % 256) as u8, (x % 256) as u8];
-    text(what)
-        && digits(&lent::bytes_of(key))
-        && text(b" counter ")
-        && digits(&shown)
-        && text(b"\n")
-}
-
-// The checksum with one key more: rotated by one bit, exclusive-or the key.
-fn mixed(checksum: u64, key: u64) -> u64 {
-    ((checksum << 1) ^ (checksum >> 63)) ^ key
-}
-
-// A count, one more.
-fn one_more(n: u64) -> u64 {
-    std::num::wrapping_add_u64(n, 1)
-}
-
-// What was seen, with one key more: given by the terminal, and derived by the host.
-fn with_key(seen: Seen, key: u64, host: u64, counter: u32) -> Seen {
-    let mut next = seen;
-    if seen.keys == 0 {
-        next.first = key;
-        next.first_counter = counter;
+// A key of eight bytes.
+fn single(bytes: [u8; 8]) -> DoubleKey {
+    DoubleKey {
+        left: lent::word_of(&bytes),
+        right: 0,
     }
-    if key != host {
-        next.differed = one_more(seen.differed);
-    }
-    next.keys = one_more(seen.keys);
-    next.last = key;
-    next.last_counter = counter;
-    next.checksum = mixed(seen.checksum, key);
-    next
 }
 
-// The host's key for a serial number, 0 where it is refused.
-fn host_word(derivation: &[u8], serial: [u8; 10]) -> u64 {
-    let answer = host::host_key(derivation, &serial);
-    lent::word_of(&answer.value)
+// The host's key for a serial number, zeros where it is refused.
+fn host_key(derivation_key: &[u8], serial_number: [u8; 10]) -> DoubleKey {
+    let answer = host::host_key(derivation_key, &serial_number);
+    let value = answer.value;
+    single(value)
 }
 
-// Writes what was seen, and how the call after the last key was answered, up to the first write that fails.
-fn report(seen: Seen, number: u32) -> bool {
-    count_line(b"keys ", seen.keys)
-        && count_line(b"differed from the host ", seen.differed)
-        && key_line(b"first ", seen.first, seen.first_counter)
-        && key_line(b"last ", seen.last, seen.last_counter)
-        && word_line(b"checksum ", seen.checksum)
-        && count_line(b"then refused ", number as u64)
+// The host's key of double length for a serial number, zeros where it is refused.
+fn double_host_key(derivation_key: &[u8], serial_number: [u8; 10]) -> DoubleKey {
+    let answer = doublehost::host_key(derivation_key, &serial_number);
+    let value = answer.value;
+    doublehost::key_of(&value)
 }
 
-// Takes every key of a terminal, at most 1,048,576 calls.
-fn drained(derivation: &[u8], loaded: Terminal) {
+// Takes every key of a terminal of single length, at most 1,048,576 calls.
+fn drained(derivation_key: &[u8], loaded: terminal::Terminal) {
     let mut t = loaded;
-    let mut seen = Seen {
-        keys: 0,
-        differed: 0,
-        first: 0,
-        first_counter: 0,
-        last: 0,
-        last_counter: 0,
-        checksum: 0,
-    };
+    let mut seen = nothing(false);
     let mut calls: u64 = 0;
     while calls < 1048576 {
         calls += 1;
@@ -117,17 +42,65 @@ fn drained(derivation: &[u8], loaded: Terminal) {
             report(seen, given.number);
             return;
         }
-        let serial = given.serial;
-        seen = with_key(
-            seen,
-            lent::word_of(&buffer),
-            host_word(derivation, serial),
-            given.counter,
-        );
+        let serial_number = given.serial;
+        let host = host_key(derivation_key, serial_number);
+        seen = with_key(seen, single(buffer), host, given.counter);
         let left = given.terminal;
         t = left;
     }
     text(b"the terminal does not end\n");
+}
+
+// Takes every key of a terminal of double length, at most 1,048,576 calls.
+fn double_drained(derivation_key: &[u8], loaded: doubleterminal::Terminal) {
+    let mut t = loaded;
+    let mut seen = nothing(true);
+    let mut calls: u64 = 0;
+    while calls < 1048576 {
+        calls += 1;
+        let mut buffer = [0u8; 16];
+        let given = doubleterminal::next_key(t, &mut buffer);
+        if given.number != lent::DONE {
+            report(seen, given.number);
+            return;
+        }
+        let serial_number = given.serial;
+        let host = double_host_key(derivation_key, serial_number);
+        seen = with_key(seen, doublehost::key_of(&buffer), host, given.counter);
+        let left = given.terminal;
+        t = left;
+    }
+    text(b"the terminal does not end\n");
+}
+
+// Loads a terminal of single length and takes every key.
+fn drain() {
+    let derivation_key = b"\x51\x52\x54\x57\x58\x5B\x5D\x5E\x61\x62\x64\x67\x68\x6B\x6D\x6E";
+    let serial_number = b"\x01\x23\x45\x67\x89\xAB\xCD\xF0\x00\x01";
+    let initial = host::initial_key(derivation_key, serial_number);
+    let key = initial.value;
+    let loaded = terminal::load(&key, serial_number);
+    if loaded.number != lent::DONE {
+        text(b"not loaded\n");
+        return;
+    }
+    let t = loaded.terminal;
+    drained(derivation_key, t);
+}
+
+// Loads a terminal of double length and takes every key.
+fn double_drain() {
+    let derivation_key = b"\x01\x23\x45\x67\x89\xAB\xCD\xEF\xFE\xDC\xBA\x98\x76\x54\x32\x10";
+    let serial_number = b"\xFF\xFF\x98\x76\x54\x32\x10\xE0\x00\x00";
+    let initial = doublehost::initial_key(derivation_key, serial_number);
+    let key = initial.value;
+    let loaded = doubleterminal::load(&key, serial_number);
+    if loaded.number != lent::DONE {
+        text(b"not loaded\n");
+        return;
+    }
+    let t = loaded.terminal;
+    double_drained(derivation_key, t);
 }
 
 // Whether the program was asked for something else than its work.
@@ -140,9 +113,9 @@ fn asked() -> bool {
         b"drain",
         b"usage: drain   (drain --help says more)\n",
         b"usage: drain
-Reads nothing. Loads one terminal, takes every key it has and compares each with the host's; this takes half a minute.
-Writes how many keys there were and how many differed, the first and the last key with their counters, a checksum of all,
-and the number with which the call after the last key was refused.
+Reads nothing. Loads one terminal of each length, takes every key it has and compares each with the host's; this takes some seconds.
+Writes for each length how many keys there were and how many differed, the first and the last key with their counters, a checksum
+of all, and the number with which the call after the last key was refused.
 ",
     )
 }
@@ -151,15 +124,6 @@ fn main() {
     if asked() {
         return;
     }
-    let derivation = b"\x51\x52\x54\x57\x58\x5B\x5D\x5E\x61\x62\x64\x67\x68\x6B\x6D\x6E";
-    let serial = b"\x01\x23\x45\x67\x89\xAB\xCD\xF0\x00\x01";
-    let initial = host::initial_key(derivation, serial);
-    let key = initial.value;
-    let loaded = terminal::load(&key, serial);
-    if loaded.number != lent::DONE {
-        text(b"not loaded\n");
-        return;
-    }
-    let t = loaded.terminal;
-    drained(derivation, t);
+    drain();
+    double_drain();
 }

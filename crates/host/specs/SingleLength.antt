@@ -8,9 +8,13 @@ use Rattle.cipher.specs.Des.{encrypted}
 use Rattle.cipher.specs.Triple.{tripleEncrypted}
 use Rattle.registers.specs.Device.{Device}
 
--- the one-way step: exclusive-or with the key, encrypt under the key, exclusive-or with the key again
+-- 002's step: exclusive-or with `mixed`, encrypt under the key, exclusive-or with `mixed` again
+unfoldable pub step : ℕ → ℕ → ℕ → ℕ
+step key mixed block = bitXor (encrypted key (bitXor block mixed)) mixed
+
+-- the one-way step: the key itself is exclusive-or'd in and out
 unfoldable pub oneWay : ℕ → ℕ → ℕ
-oneWay key block = bitXor (encrypted key (bitXor block key)) key
+oneWay key block = step key key block
 
 -- the initial key: triple DES, under the derivation key's 16 bytes, of the serial number's first eight bytes with the low five bits cleared
 unfoldable pub initialWord : List ℕ → ℕ → ℕ

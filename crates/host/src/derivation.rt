@@ -1,17 +1,22 @@
 // How a terminal's keys are derived from the initial key.
 ghost use mathlib.Core.Path.{_≡_};
-ghost use Prim.Native.Nat.{_+_, _*_, _/_, _^_, _≤_, _<_};
-ghost use lib.Dec.{eqb};
-ghost use Rattle.lent.specs.Choice.{pick};
-ghost use Rattle.registers.specs.Counters.{bit};
-ghost use Rattle.registers.specs.RegisterKey.{registerKey};
+ghost use Prim.Native.Nat.{_+_, _^_, _≤_, _<_};
+ghost use Rattle.registers.specs.RegisterKey.{past, registerKey};
+ghost use Rattle.host.specs.SingleLength;
 ghost use Rattle.host.specs.SingleLength.{oneWay, givenOut};
 
-// The one-way step: exclusive-or with the key, encrypt under the key, exclusive-or with the key again.
+// 002's step: exclusive-or with `mixed`, encrypt under the key, exclusive-or with `mixed` again.
+pub fn step(key: u64, mixed: u64, block: u64) -> u64
+    ensures { λ r. ⌜ r ≡ SingleLength.step key mixed block ⌝ }
+{
+    cipher::encrypt(key, block ^ mixed) ^ mixed
+}
+
+// The one-way step: the key itself is exclusive-or'd in and out.
 pub fn one_way(key: u64, block: u64) -> u64
     ensures { λ r. ⌜ r ≡ oneWay key block ⌝ }
 {
-    cipher::encrypt(key, block ^ key) ^ key
+    step(key, key, block)
 }
 
 // The key given out, of a register key.
@@ -26,7 +31,7 @@ fn past_place(key: u64, tail: u64, counter: u32, b: u32) -> u64
     requires { ⌜ b < 21 ⌝ }
     requires { ⌜ counter < 2 ^ 21 ⌝ }
     requires { ⌜ tail + 2 ^ 21 ≤ 2 ^ 64 ⌝ }
-    ensures { λ r. ⌜ r ≡ pick (eqb (bit counter b) 1) (oneWay key (tail + counter / 2 ^ b * 2 ^ b)) key ⌝ }
+    ensures { λ r. ⌜ r ≡ past oneWay tail key counter b ⌝ }
 {
     let bits = counter >> b;
     if bits % 2 == 1 {

@@ -7,51 +7,42 @@ ghost use Rattle.registers.specs.Host.{initialOf, initialKey, hostKey};
 ghost use Rattle.host.specs.SingleLength.{singleLength};
 
 // The initial key's word.
-fn initial_word(derivation: &[u8], serial: &[u8]) -> u64
-    ensures { λ r. ⌜ r ≡ initialOf singleLength (now (derivation .entry)) (now (serial .entry)) ⌝ }
+fn initial_word(derivation_key: &[u8], serial_number: &[u8]) -> u64
+    ensures { λ r. ⌜ r ≡ initialOf singleLength (now («derivation_key» .entry)) (now («serial_number» .entry)) ⌝ }
 {
     cipher::triple_encrypt(
-        lent::word_of(derivation),
-        lent::right_half(derivation),
-        registers::cleared_head(serial),
+        lent::word_of(derivation_key),
+        lent::right_half(derivation_key),
+        registers::cleared_head(serial_number),
     )
 }
 
 // The initial key of the terminal with that serial number. Refuses with 6 if the derivation key does not have 16 bytes or the serial number 10,
 // 9 if the halves of the derivation key agree without the low bit of each byte.
-pub fn initial_key(derivation: &[u8], serial: &[u8]) -> lent::Block
-    ensures { λ r. ⌜ Answered 8 (initialKey singleLength (now (derivation .entry)) (now (serial .entry))) (r .number) (r .value) ⌝ }
+pub fn initial_key(derivation_key: &[u8], serial_number: &[u8]) -> lent::Block
+    ensures { λ r. ⌜ Answered 8 (initialKey singleLength (now («derivation_key» .entry)) (now («serial_number» .entry))) (r .number) (r .value) ⌝ }
 {
-    if derivation.len() != 16 {
-        return lent::refused_block(lent::SIZE);
+    let number = registers::derivable(derivation_key, serial_number);
+    if number != lent::DONE {
+        return lent::refused_block(number);
     }
-    if serial.len() != 10 {
-        return lent::refused_block(lent::SIZE);
-    }
-    if cipher::same_key(lent::word_of(derivation), lent::right_half(derivation)) {
-        return lent::refused_block(lent::EQUAL_HALVES);
-    }
-    lent::block_of(initial_word(derivation, serial))
+    lent::block_of(initial_word(derivation_key, serial_number))
 }
 
 // The key that the terminal gives out with the counter in the serial number. Refuses with 6 and 9 as for the initial key, 10 if the counter is 0
 // or has more than ten one bits.
-pub fn host_key(derivation: &[u8], serial: &[u8]) -> lent::Block
-    ensures { λ r. ⌜ Answered 8 (hostKey singleLength (now (derivation .entry)) (now (serial .entry))) (r .number) (r .value) ⌝ }
+pub fn host_key(derivation_key: &[u8], serial_number: &[u8]) -> lent::Block
+    ensures { λ r. ⌜ Answered 8 (hostKey singleLength (now («derivation_key» .entry)) (now («serial_number» .entry))) (r .number) (r .value) ⌝ }
 {
-    let initial = initial_key(derivation, serial);
-    if initial.number != lent::DONE {
-        return lent::refused_block(initial.number);
+    let number = registers::derivable(derivation_key, serial_number);
+    if number != lent::DONE {
+        return lent::refused_block(number);
     }
-    let counter = registers::counter_of(serial);
+    let counter = registers::counter_of(serial_number);
     if !registers::permitted(counter) {
         return lent::refused_block(lent::BAD_COUNTER);
     }
-    let bytes = initial.value;
-    let key = register_key(
-        lent::word_of(&bytes),
-        registers::cleared_tail(serial),
-        counter,
-    );
+    let initial = initial_word(derivation_key, serial_number);
+    let key = register_key(initial, registers::cleared_tail(serial_number), counter);
     lent::block_of(given_out(key))
 }

@@ -4,5 +4,6 @@ mod entries;
 
 pub use derivation::given_out;
 pub use derivation::one_way;
+pub use derivation::step;
 pub use entries::host_key;
 pub use entries::initial_key;

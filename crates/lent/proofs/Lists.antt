@@ -1,17 +1,21 @@
 -- Laws on lists: parts, repeated elements, and tests that every element passes.
 use borrow.Author.Tests.{ltb-true, ltb-false}
-use mathlib.Core.Path.{_≡_, refl}
+use mathlib.Core.Path.{_≡_, refl, sym, _∙_}
 use mathlib.Core.Bool.{Bool, true}
 use mathlib.Core.List.{List, [], _∷_, _++_, map, map-id}
 use Prim.Native.Nat.{ℕ, zero, suc, _-_, _<_, _≤_}
 use native.Mathlib.Nat.{sub-zero, zero-sub, suc-sub-suc, le-of-suc-le-suc}
 use native.Mathlib.Omega.{arith}
 use lib.Dec.{ltb}
-use lib.ListN.{length, getD, take, drop, replicate, length-drop, List·getD-eq-default}
+use lib.ListN.{length, getD, take, drop, replicate, length-map, length-drop, List·getD-eq-default}
 use lib.Seq.{take-all}
 use Rattle.lent.specs.Choice.{both, all}
 use Rattle.lent.proofs.Laws.{cases, both-true, all-at}
 use Rattle.lent.proofs.Bases.{Digits}
+
+-- a list has as many elements as what is made of them, one of each
+pub length-mapped : (A B : Type 0) (f : A → B) (s : List A) (n : ℕ) → length (map f s) ≡ n → length s ≡ n
+length-mapped A B f s n e = sym (length-map s f) ∙ e
 
 -- ---- parts
 

@@ -1,7 +1,9 @@
 // What an entry answers.
+use crate::memory::double_bytes_of;
 use crate::numbers::DONE;
 use crate::words;
 ghost use mathlib.Core.Path.{_≡_};
+ghost use mathlib.Core.List.{_++_};
 ghost use lib.ListN.{replicate};
 ghost use Rattle.lent.specs.Result.{Answered, done};
 ghost use Rattle.lent.specs.Words.{wordBytes};
@@ -59,5 +61,15 @@ pub fn block_of(x: u64) -> Block
     Block {
         number: DONE,
         value: words::bytes_of(x),
+    }
+}
+
+// The answer with the sixteen bytes of two words, the left one first.
+pub fn double_block_of(left: u64, right: u64) -> DoubleBlock
+    ensures { λ r. ⌜ Answered 16 (done (wordBytes left ++ wordBytes right)) (r .number) (r .value) ⌝ }
+{
+    DoubleBlock {
+        number: DONE,
+        value: double_bytes_of(left, right),
     }
 }

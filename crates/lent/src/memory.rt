@@ -5,6 +5,7 @@ use crate::numbers::DONE;
 use crate::numbers::SHORT_BUFFER;
 use crate::words::bytes_of;
 ghost use mathlib.Core.Path.{_≡_};
+ghost use mathlib.Core.List.{_++_};
 ghost use Prim.Native.Nat.{_≤_};
 ghost use lib.ListN.{length};
 ghost use Rattle.lent.specs.Appending.{appending};
@@ -43,6 +44,16 @@ pub fn lend_word(x: u64, out: &mut [u8]) -> Answer
 {
     let bytes = bytes_of(x);
     lend(&bytes, out)
+}
+
+// The sixteen bytes of two words, the left one first.
+pub fn double_bytes_of(left: u64, right: u64) -> [u8; 16]
+    ensures { λ r. ⌜ r ≡ wordBytes left ++ wordBytes right ⌝ }
+{
+    let mut bytes = [0u8; 16];
+    lend_word(left, &mut bytes);
+    lend_word(right, &mut bytes[8..]);
+    bytes
 }
 
 // Writes a value into lent memory after its first n bytes, and answers how many there are then. Refuses with 13 if the memory is

@@ -14,13 +14,16 @@ use lib.ListN.{length, getD, set, take, drop, length-append, length-drop, take-a
 use lib.Seq.{drop-at, drop-cons, drop-drop, length-take-le, take-suc-set}
 use Rattle.lent.specs.Words.{fromBase, toBase}
 use Rattle.lent.proofs.Bases.{Digits, digits-drop, digits-take, to-length, to-from, from-to, from-lt}
+use Rattle.lent.specs.Private.{Appends}
+use Rattle.lent.proofs.Appending.{both-appends}
 use Rattle.lent.proofs.Results.{over-whole}
 use Rattle.registers.specs.Device.{Device}
-use Rattle.registers.specs.Machine.{State}
+use Rattle.registers.specs.Machine.{State, stateIn, positionOf}
+use Rattle.registers.specs.declared.positions.Position.{Position}
 use Rattle.registers.proofs.Laws.{Lawful, ReadBack}
-use Rattle.recordbytes.specs.RecordBytes.{partSizes, recordSize, lastPlace, registerBytes, registersOf, exhaustedByte, recordParts, recordBytes, stateOfParts, stateOf}
-use Rattle.recordbytes.specs.Parts.{cut, total}
-use Rattle.recordbytes.proofs.Cutting.{joined-length, EachAppends, all-appends}
+use Rattle.recordbytes.specs.RecordBytes.{numberRead, exhaustedByte, restSizes, restParts, serialIn, positionIn, partSizes, recordSize, lastPlace, registerBytes, registersOf, recordParts, recordBytes, stateOfParts, stateOf}
+use Rattle.recordbytes.specs.Parts.{joined, cut, total}
+use Rattle.recordbytes.proofs.Cutting.{joined-length}
 
 -- ---- numbers
 
@@ -48,6 +51,20 @@ exhausted-le false = omega arith
 
 pub exhausted-byte-back : (x : ℕ) → x ≤ 1 → exhaustedByte (eqb x 1) ≡ x
 exhausted-byte-back x h = by-cases (ℕ-discrete x 1) (λ e. rw (eq-eqb x 1 e) (sym e)) (λ e. rw (ne-eqb x 1 e) (omega arith))
+
+-- ---- what stands after the registers
+
+-- where its parts stand
+pub rest-at : (s : List ℕ) → cut restSizes s ≡ take 4 s ∷ take 10 (drop 4 s) ∷ take 4 (drop 14 s) ∷ take 1 (drop 18 s) ∷ []
+rest-at s = simp drop-drop
+
+-- what its bytes say
+pub rest-read : (s : List ℕ) {serial : List ℕ} {p : Position} → length s ≡ 19 → serial ≡ take 10 (drop 4 s)
+    → p ≡ record { counter = numberRead (take 4 (drop 14 s)); filled = numberRead (take 4 s); exhausted = eqb (getD s 18 0) 1 }
+    → (serial ≡ serialIn (cut restSizes s)) × (p ≡ positionIn (cut restSizes s))
+rest-read s long es ep =
+    let last : take 1 (drop 18 s) ≡ getD s 18 0 ∷ [] = rw (drop-cons s 18 0 (omega arith)) in
+    (es, ep ∙ rw (ap positionIn (rest-at s), last))
 
 module _ {K : Type 0} (device : Device K) where
   -- ---- registers
@@ -88,6 +105,12 @@ module _ {K : Type 0} (device : Device K) where
   pub state-parts : (s : List ℕ) → stateOf device s ≡ stateOfParts device (partsAt s)
   unfolding stateOf
   state-parts s = ap (stateOfParts device) (parts-at s)
+
+  -- a record whose registers and the rest were read
+  pub state-read : (bytes : List ℕ) {keys : List K} {serial : List ℕ} {p : Position} → let rest = cut restSizes (drop (21 * device .size) bytes) in
+      keys ≡ registersOf device 21 (take (21 * device .size) bytes) → serial ≡ serialIn rest → p ≡ positionIn rest → stateIn keys serial p ≡ stateOf device bytes
+  unfolding stateOf
+  state-read bytes ek es ep = rw (ek, es, ep)
 
   -- the last
   pub last-part : (s : List ℕ) → length s ≡ recordSize device → take 1 (drop (lastPlace device) s) ≡ getD s (lastPlace device) 0 ∷ []
@@ -134,9 +157,10 @@ module _ {K : Type 0} (device : Device K) where
       unfolding recordBytes
       record-length = joined-length (recordParts device s) ∙ ap total part-sizes
 
-      -- parts written one after the other fill a record's bytes
-      pub record-put : (before : List ℕ) {after : List ℕ} {r : ℕ} → length before ≡ recordSize device
-          → EachAppends (recordParts device s) before after 0 r → after ≡ recordBytes device s
+      -- registers and the rest, written one after the other, fill a record's bytes
+      pub record-put : (before : List ℕ) {mid after : List ℕ} {k r : ℕ} → length before ≡ recordSize device
+          → Appends (registerBytes device (s .keys)) before mid 0 k → Appends (joined (restParts (s .serial) (positionOf s))) mid after k r
+          → after ≡ recordBytes device s
       unfolding recordBytes
-      record-put before l all =
-          all-appends all (rw (record-length, l) (omega arith)) .memory ∙ rw zero-add (over-whole (recordBytes device s) before (record-length ∙ sym l))
+      record-put before l first rest =
+          both-appends first rest (rw (record-length, l) (omega arith)) .memory ∙ rw zero-add (over-whole (recordBytes device s) before (record-length ∙ sym l))

@@ -1,13 +1,15 @@
 -- The calls of a terminal in bytes, from what a loading and the call for the next key promise, for any device.
-use borrow.Author.Tests.{le-leb}
+use borrow.Author.Tests.{leb-true}
 use mathlib.Core.Path.{_≡_, refl, sym, ap, _∙_}
 use mathlib.Core.Bool.{Bool, true, false}
 use mathlib.Core.List.{List}
 use Prim.Native.Nat.{ℕ, _≤_}
 use native.Mathlib.Omega.{arith}
+use lib.Dec.{leb}
 use lib.ListN.{length, getD}
 use Rattle.lent.specs.Refusals.{Refusal, numberOf, shortBuffer}
 use Rattle.lent.specs.Result.{Result, done, refused, require, andThen, Written}
+use Rattle.lent.proofs.Laws.{both-true}
 use Rattle.lent.proofs.Results.{Refuses, number-done, number-refuses, refuses-then, lent-all, over-whole}
 use Rattle.registers.specs.Device.{Device}
 use Rattle.registers.specs.Machine.{State, zeroState}
@@ -55,25 +57,31 @@ module _ {K : Type 0} (device : Device K) where
       answer : nextKey device s true ≡ done (given device s)
       answer = next-done device s true (sym (next .number) ∙ z)
 
-      pub short-buffers : (enough : Bool) → enough ≡ false → nextKeyOf device bytes enough ≡ refused shortBuffer
-      short-buffers enough e = by-answer enough ∙ rw (answer, e)
+      pub short-buffers : {enough : Bool} → enough ≡ false → nextKeyOf device bytes enough ≡ refused shortBuffer
+      short-buffers {enough} e = by-answer enough ∙ rw (answer, e)
+
+      pub serial-sized : length (y .serial) ≡ 10
+      serial-sized = rw ((rw answer at next) .serial) (length-with (s .serial) (s .counter))
 
       pub called-done : (x : Call) {i j m n : ℕ} → Lawful device → length (y .before) ≡ device .size
-          → device .size ≤ length (x .key-before) → 10 ≤ length (x .serial-before)
+          → roomy device x ≡ true
           → x .number ≡ 0 → x .length ≡ device .size → x .record-after ≡ recordBytes device (y .left)
           → Written (done (y .after)) (x .key-before) i j (x .key-after) → Written (done (y .serial)) (x .serial-before) m n (x .serial-after)
           → Next device bytes x
-      called-done x lawful room hk hs number value left wk ws =
+      called-done x lawful room enough number value left wk ws =
           let g = given device s in
+          let rooms = both-true (leb (device .size) (length (x .key-before))) (leb 10 (length (x .serial-before))) enough in
+          let hk = leb-true (device .size) (length (x .key-before)) (rooms .0) in
+          let hs = leb-true 10 (length (x .serial-before)) (rooms .1) in
           let kept = rw answer at next in
           let sized : length (g .key) ≡ device .size = lawful .sized _ in
           let key-out : y .after ≡ g .key = kept .memory ∙ over-whole (g .key) (y .before) (sized ∙ sym room) in
           let answered : nextKeyOf device bytes (roomy device x) ≡ done g =
-          by-answer (roomy device x) ∙ rw (answer, le-leb _ _ hk, le-leb _ _ hs) in
+          by-answer (roomy device x) ∙ rw (answer, enough) in
           rw answered (record {
             number = number;
             value = value ∙ sym sized;
             state = left ∙ ap (recordBytes device) (kept .left);
             key-memory = lent-all (omega arith) (rw key-out at wk);
-            serial-memory = lent-all (omega (arith, length-with (s .serial) (s .counter))) (rw (kept .serial) at ws);
+            serial-memory = rw (kept .serial) at (lent-all (omega (arith, serial-sized)) ws);
           })

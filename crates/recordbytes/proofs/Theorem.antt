@@ -20,8 +20,6 @@ use Rattle.registers.specs.Host.{initialOf, keyOf, initialKey}
 use Rattle.registers.specs.Trace.{Trace}
 use Rattle.registers.specs.Demand.{Waits, Demand3}
 use Rattle.registers.proofs.Laws.{ReadBack, Lawful, Fit, fit, initial-loads, counter-with, After, after-valid, after-demand, sound-demand3, some-trace}
-use Rattle.host.specs.SingleLength.{singleLength}
-use Rattle.host.proofs.Laws.{lawful}
 use Rattle.recordbytes.specs.RecordBytes.{recordBytes}
 use Rattle.recordbytes.specs.Calls.{Call, loadedBytes, nextKeyOf, Keeps, Next}
 use Rattle.recordbytes.specs.Records.{LoadedFrom, byBytes}
@@ -132,8 +130,3 @@ module _ {K : Type 0} (device : Device K) where
         serial-after = x .serial-after;
       } ≡ callWith bytes (x .key-before, x .serial-before) = rw (p .number, p .value, p .state, p .key-memory, p .serial-memory) in
       same
-
--- ---- the C calls
-
-pub single-length : Demand3 singleLength (byBytes singleLength)
-single-length = bytes-demand3 singleLength lawful

@@ -8,7 +8,8 @@ use lib.Dec.{eqb}
 use lib.ListN.{length, getD, drop}
 use Rattle.lent.specs.Words.{fromBase, toBase}
 use Rattle.registers.specs.Device.{Device}
-use Rattle.registers.specs.Machine.{State}
+use Rattle.registers.specs.Machine.{State, stateIn, positionOf}
+use Rattle.registers.specs.declared.positions.Position.{Position}
 use Rattle.registers.specs.Rule.{Valid}
 use Rattle.recordbytes.specs.Parts.{joined, cut}
 
@@ -24,10 +25,31 @@ abbrev pub exhaustedByte : Bool → ℕ
 exhaustedByte false = 0
 exhaustedByte true = 1
 
+-- ---- what stands after the registers
+
+-- the sizes of its parts, and the parts
+abbrev pub restSizes : List ℕ
+restSizes = 4 ∷ 10 ∷ 4 ∷ 1 ∷ []
+
+abbrev pub restParts : List ℕ → Position → List (List ℕ)
+restParts serial p = numberBytes (p .filled) ∷ serial ∷ numberBytes (p .counter) ∷ (exhaustedByte (p .exhausted) ∷ []) ∷ []
+
+-- the serial number and the position of four parts
+abbrev pub serialIn : List (List ℕ) → List ℕ
+serialIn parts = getD parts 1 []
+
+abbrev pub positionIn : List (List ℕ) → Position
+positionIn parts =
+    record {
+      filled = numberRead (getD parts 0 []);
+      counter = numberRead (getD parts 2 []);
+      exhausted = eqb (getD (getD parts 3 []) 0 0) 1;
+    }
+
 module _ {K : Type 0} (device : Device K) where
   -- the sizes of a record's parts
   abbrev pub partSizes : List ℕ
-  partSizes = 21 * device .size ∷ 4 ∷ 10 ∷ 4 ∷ 1 ∷ []
+  partSizes = 21 * device .size ∷ restSizes
 
   -- their sum, and the place of the last byte
   abbrev pub recordSize : ℕ
@@ -45,13 +67,7 @@ module _ {K : Type 0} (device : Device K) where
 
   -- the parts of a record
   abbrev pub recordParts : State K → List (List ℕ)
-  recordParts s =
-      registerBytes (s .keys)
-      ∷ numberBytes (s .filled)
-      ∷ s .serial
-      ∷ numberBytes (s .counter)
-      ∷ (exhaustedByte (s .exhausted) ∷ [])
-      ∷ []
+  recordParts s = registerBytes (s .keys) ∷ restParts (s .serial) (positionOf s)
 
   -- its bytes
   unfoldable pub recordBytes : State K → List ℕ
@@ -66,14 +82,7 @@ module _ {K : Type 0} (device : Device K) where
 
   -- the record of five parts
   abbrev pub stateOfParts : List (List ℕ) → State K
-  stateOfParts parts =
-      record {
-        keys = registersOf 21 (getD parts 0 []);
-        filled = numberRead (getD parts 1 []);
-        serial = getD parts 2 [];
-        counter = numberRead (getD parts 3 []);
-        exhausted = eqb (getD (getD parts 4 []) 0 0) 1;
-      }
+  stateOfParts parts = stateIn (registersOf 21 (getD parts 0 [])) (serialIn (drop 1 parts)) (positionIn (drop 1 parts))
 
   -- the record of bytes
   unfoldable pub stateOf : List ℕ → State K

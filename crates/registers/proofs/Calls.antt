@@ -1,21 +1,24 @@
 -- Loading and the call for the next key, by their cases.
+use borrow.Author.Tests.{le-leb, eq-eqb, ne-eqb}
 use mathlib.Core.Path.{_≡_, refl, ap, _∙_}
-use mathlib.Core.Logic.{_⊎_, inl, inr, ⊎-elim, ite, if-pos, if-neg}
+use mathlib.Core.Logic.{_⊎_, inl, inr, ⊎-elim, ite, if-pos, if-neg, by-cases}
 use mathlib.Core.Bool.{Bool, true, false, not}
 use mathlib.Core.List.{List}
-use Prim.Native.Nat.{ℕ}
+use Prim.Native.Nat.{ℕ, _≤_}
+use native.Mathlib.Decide.{ℕ-discrete}
 use native.Mathlib.Omega.{arith}
 use lib.Dec.{eqb}
 use lib.ListN.{length, replicate}
 use Rattle.lent.specs.Refusals as refusals
 use Rattle.lent.specs.Refusals.{Refusal, numberOf}
-use Rattle.lent.specs.Result.{Result, done, refused, number, require, andThen, ofDone}
+use Rattle.lent.specs.Result.{Result, done, refused, number, require, andThen, over, ofDone}
 use Rattle.lent.proofs.Laws.{cases}
+use Rattle.registers.specs.SerialNumber.{withCounter}
 use Rattle.registers.specs.Device.{Device}
-use Rattle.registers.specs.Machine.{State, loaded, zeroState}
+use Rattle.registers.specs.Machine.{State, loaded, readyKey, spent, zeroState}
 use Rattle.registers.specs.Rule.{Valid}
 use Rattle.registers.specs.Deciding.{valid?}
-use Rattle.registers.specs.Calls.{Given, loading, Load, given, nextKey, Keeps}
+use Rattle.registers.specs.Calls.{Given, Call, loading, Load, given, nextKey, Keeps, Next}
 use Rattle.registers.proofs.Validity.{runs-counted}
 
 module _ {K : Type 0} (device : Device K) where
@@ -27,6 +30,21 @@ module _ {K : Type 0} (device : Device K) where
     load-cases =
         cases (eqb (length initial) (device .size)) (λ e. cases (eqb (length serial) 10) (λ f. inl (simp (e, f))) (λ f. inr (simp (e, f))))
         (λ e. inr (simp e))
+
+    -- what is answered for a size that is not right, and for right ones
+    pub load-sizes : {num : ℕ} {s : State K} → ¬ ((length initial ≡ device .size) × (length serial ≡ 10)) → num ≡ numberOf refusals.size → s ≡ zeroState device
+        → Load device initial serial num s
+    unfolding loading
+    load-sizes h en es =
+        by-cases (ℕ-discrete (length initial) (device .size))
+        (λ i. by-cases (ℕ-discrete (length serial) 10) (λ n. absurd (h (i, n)))
+        (λ n. record { number = simp (eq-eqb _ _ i, ne-eqb _ _ n) en; state = simp (eq-eqb _ _ i, ne-eqb _ _ n) es }))
+        (λ i. record { number = simp (ne-eqb _ _ i) en; state = simp (ne-eqb _ _ i) es })
+
+    pub load-done : {s : State K} → length initial ≡ device .size → length serial ≡ 10 → s ≡ loaded device (device .read initial) serial
+        → Load device initial serial 0 s
+    unfolding loading
+    load-done i n e = record { number = simp (eq-eqb _ _ i, eq-eqb _ _ n); state = simp (eq-eqb _ _ i, eq-eqb _ _ n) e }
 
     -- refused, it is 6 with the all-zero state
     pub load-refused : {num : ℕ} {s : State K} → Load device initial serial num s → ¬ (num ≡ 0) → (num ≡ numberOf refusals.size) × (s ≡ zeroState device)
@@ -76,6 +94,13 @@ module _ {K : Type 0} (device : Device K) where
   pub refused-next : {o : Result (Given K)} {s : State K} {before : List ℕ} (why : Refusal) → o ≡ refused why
       → Keeps device o s (record { before = before; number = numberOf why; counter = 0; serial = replicate 10 0; left = s; after = before })
   refused-next why e = rw e (record { number = refl; counter = refl; serial = refl; left = refl; memory = refl })
+
+  -- and for a key
+  pub given-next : {s : State K} {x : Call K} {key : K} → Valid device s → s .exhausted ≡ false → device .size ≤ length (x .before)
+      → x .number ≡ 0 → x .counter ≡ s .counter → x .serial ≡ withCounter (s .serial) (s .counter) → x .left ≡ spent device s
+      → key ≡ device .variant (readyKey device s) → x .after ≡ over (device .bytes key) (x .before) → Next device s x
+  given-next ok runs room number counter serial left ready memory =
+      rw (next-full _ _ ok runs (le-leb _ _ room), ← ready) (record { number = number; counter = counter; serial = serial; left = left; memory = memory })
 
   -- the all-zero state, not exhausted, does not hang together
   pub zero-invalid : ¬ Valid device (zeroState device)

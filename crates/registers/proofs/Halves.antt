@@ -1,5 +1,6 @@
 -- The halves of a derivation key (02, M-104): which are refused with 9, and why, for any device.
-use mathlib.Core.Bool.{Bool, true, false, not}
+use borrow.Author.Tests.{eq-eqb}
+use mathlib.Core.Bool.{Bool, true, false, not, false≢true}
 use mathlib.Core.List.{List}
 use mathlib.Core.Logic.{_↔_}
 use mathlib.Core.Path.{_≡_, refl, sym, _∙_}
@@ -9,7 +10,7 @@ use lib.Dec.{eqb}
 use lib.ListN.{length, getD, drop}
 use lib.Seq.{getD-drop}
 use Rattle.lent.specs.Refusals.{size, equalHalves, badCounter}
-use Rattle.lent.specs.Result.{Result, done, refused, number, require, andThen}
+use Rattle.lent.specs.Result.{Result, done, number, require}
 use Rattle.lent.specs.Words.{left, right}
 use Rattle.lent.proofs.Bases.{Digits, digits-drop, from-lt}
 use Rattle.cipher.specs.Des.{encrypted, decrypted}
@@ -20,7 +21,7 @@ use Rattle.parity.proofs.LowBits.{each-byte, same-bytes}
 use Rattle.registers.specs.Counters.{counterPermitted}
 use Rattle.registers.specs.SerialNumber.{counterOf}
 use Rattle.registers.specs.Device.{Device}
-use Rattle.registers.specs.Host.{sameHalves, initialKey, hostKey}
+use Rattle.registers.specs.Host.{sameHalves, derivable, initialKey, hostKey}
 
 module _ (derivation : List ℕ) (bytes : Digits 256 derivation) where
   right-bytes : Digits 256 (drop 8 derivation)
@@ -40,28 +41,34 @@ module _ (derivation : List ℕ) (bytes : Digits 256 derivation) where
 
 -- ---- refused with 9
 
--- the third of three tests fails
-third : (a b c : Bool) (key : List ℕ) → number (require a size (require b size (require (not c) equalHalves (done key)))) ≡ 9 → c ≡ true
-third false b c key e = absurd (omega arith)
-third true false c key e = absurd (omega arith)
-third true true true key e = refl
-third true true false key e = absurd (omega arith)
-
--- a counter is refused with another number
-counter-apart : (r : Result (List ℕ)) (t : Bool) (key : List ℕ) → (number (andThen r (λ k. require t badCounter (done key))) ≡ 9) ↔ (number r ≡ 9)
-counter-apart (done k) true key = (λ e. e, λ e. e)
-counter-apart (done k) false key = (λ e. omega arith, λ e. omega arith)
-counter-apart (refused why) t key = (λ e. e, λ e. e)
+-- of three tests and what comes after them, the third alone refuses with it
+third : (a b c : Bool) (r : Result (List ℕ)) → ¬ (number r ≡ 9)
+    → (number (require a size (require b size (require (not c) equalHalves r))) ≡ 9) ↔ ((a ≡ true) × (b ≡ true) × (c ≡ true))
+third false b c r other = (λ e. absurd (omega arith), λ t. absurd (false≢true (t .0)))
+third true false c r other = (λ e. absurd (omega arith), λ t. absurd (false≢true (t .1)))
+third true true false r other = (λ e. absurd (other e), λ t. absurd (false≢true (t .2)))
+third true true true r other = (λ e. (refl, refl, refl), λ t. refl)
 
 module _ {K : Type 0} (device : Device K) (derivation serial : List ℕ) where
-  same-halves : number (initialKey device derivation serial) ≡ 9 → sameHalves derivation ≡ true
-  unfolding initialKey
-  same-halves = third (eqb (length derivation) 16) (eqb (length serial) 10) (sameHalves derivation) _
+  abbrev Third : Type 0
+  Third = (eqb (length derivation) 16 ≡ true) × (eqb (length serial) 10 ≡ true) × (sameHalves derivation ≡ true)
+
+  initial-third : (number (initialKey device derivation serial) ≡ 9) ↔ Third
+  unfolding initialKey derivable
+  initial-third = third _ _ (sameHalves derivation) _ (λ e. omega arith)
+
+  -- a counter is refused with another number
+  host-third : (number (hostKey device derivation serial) ≡ 9) ↔ Third
+  unfolding hostKey derivable
+  host-third = third _ _ (sameHalves derivation) _ (counted (counterPermitted (counterOf serial)) _)
+    where
+      counted : (t : Bool) (key : List ℕ) → ¬ (number (require t badCounter (done key)) ≡ 9)
+      counted true key e = omega arith
+      counted false key e = omega arith
 
   -- for the host's key exactly if for the initial key
   pub host-refused : (number (hostKey device derivation serial) ≡ 9) ↔ (number (initialKey device derivation serial) ≡ 9)
-  unfolding hostKey
-  host-refused = counter-apart (initialKey device derivation serial) (counterPermitted (counterOf serial)) _
+  host-refused = (λ e. initial-third .1 (host-third .0 e), λ e. host-third .1 (initial-third .0 e))
 
   -- then triple DES under the derivation key is DES under its left half
   pub refused-single : number (initialKey device derivation serial) ≡ 9 → (block : ℕ)
@@ -70,13 +77,12 @@ module _ {K : Type 0} (device : Device K) (derivation serial : List ℕ) where
   refused-single e block =
       let k = left derivation in
       let k′ = right derivation in
-      (triple-encrypted-single k k′ block (same-halves e), triple-decrypted-single k k′ block (same-halves e))
+      (triple-encrypted-single k k′ block (initial-third .0 e .2), triple-decrypted-single k k′ block (initial-third .0 e .2))
 
   -- sizes being right, exactly if the halves have the same round keys
   pub refused-exactly : Digits 256 derivation → length derivation ≡ 16 → length serial ≡ 10
       → (number (initialKey device derivation serial) ≡ 9) ↔ (roundKeys (left derivation) ≡ roundKeys (right derivation))
-  unfolding initialKey
   refused-exactly bytes k s = (
-    λ e. round-keys derivation bytes .0 (same-halves e),
-    λ e. simp (k, s, round-keys derivation bytes .1 e),
+    λ e. round-keys derivation bytes .0 (initial-third .0 e .2),
+    λ e. initial-third .1 (eq-eqb _ _ k, eq-eqb _ _ s, round-keys derivation bytes .1 e),
   )

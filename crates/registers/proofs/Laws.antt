@@ -11,15 +11,16 @@ pub use Rattle.registers.proofs.Given.{given-below, given-all, reached-
 -- which numbers lie under the filled registers of a state that hangs together
 pub use Rattle.registers.proofs.Reach.{under-later, later-under}
 -- the host's derivations, and the halves of a derivation key
-pub use Rattle.registers.proofs.Hosts.{Fit, fit, initial-done, initial-loads, host-refuses, host-done}
+pub use Rattle.registers.proofs.Hosts.{Fit, fit, initial-done, initial-loads, initial-refuses, host-refuses, tested-fit, host-uncounted, host-counted, host-done}
 -- loading and a call, by their cases
-pub use Rattle.registers.proofs.Calls.{load-cases, load-refused, next-invalid, next-over, next-short, next-full, next-done, next-room, refused-next, zero-invalid}
+pub use Rattle.registers.proofs.Calls.{load-cases, load-sizes, load-done, load-refused, next-invalid, next-over, next-short, next-full, next-done, next-room, refused-next, given-next, zero-invalid}
 -- a state hangs together exactly if it passes the tests, and a key leaves one that does
-pub use Rattle.registers.proofs.Validity.{runs-counted, positionOf, Checked, checked-valid, valid-checked}
+pub use Rattle.registers.proofs.Validity.{runs-counted, Checked, checked-valid, valid-checked}
 pub use Rattle.registers.proofs.Spent.{renewed-few, renewed-full, spent-ends, spent-goes-on, spent-valid}
--- the register of a counter, its bit, and a loop that fills registers
-pub use Rattle.registers.proofs.Bits.{place-lt, place-room, one-shl}
+-- the register of a counter, a loop that fills registers, and one that derives a counter's key
+pub use Rattle.registers.proofs.Bits.{place-lt, place-room}
 pub use Rattle.registers.proofs.Filling.{fill-none, fill-turn}
+pub use Rattle.registers.proofs.Deriving.{bits-moved, bit-moved, derive-turn, derive-last}
 -- the serial number with its counter replaced
 pub use Rattle.registers.proofs.SerialNumbers.{tail-clear, with-with, length-with, counter-with, tail-with, head-with}
 -- how many numbers have few one bits, by Pascal's rule

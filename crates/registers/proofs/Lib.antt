@@ -4,6 +4,7 @@ pub mod Order
 pub mod Total
 pub mod Keys
 pub mod Filling
+pub mod Deriving
 pub mod Places
 pub mod Validity
 pub mod Reach

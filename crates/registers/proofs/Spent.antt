@@ -14,6 +14,7 @@ use Rattle.registers.specs.Counters.{bit, Permitted, lastCounter, lowest
 use Rattle.registers.specs.SerialNumber.{clearedTail}
 use Rattle.registers.specs.RegisterKey.{registerKey}
 use Rattle.registers.specs.Device.{Device}
+use Rattle.registers.specs.declared.positions.Position.{Position}
 use Rattle.registers.specs.Machine.{State, keyAt, noKeys, stepped, emptied, fill, filledMask, positionAt, positionAfter, stateIn, renewed, spent}
 use Rattle.registers.specs.Rule.{label, Valid}
 use Rattle.registers.proofs.Bits.{place-lt}
@@ -142,14 +143,15 @@ module _ {K : Type 0} (device : Device K) where
   spent-over s h = rw (next-none (s .counter) h, mask-zero)
 
   -- by the position that comes after it
-  pub spent-ends : (s : State K) → positionAfter (s .counter) .exhausted ≡ true → spent device s ≡ stateIn (noKeys device) (s .serial) (positionAfter (s .counter))
-  unfolding spent
-  spent-ends s e = rw e
+  module _ (s : State K) {p : Position} (after : p ≡ positionAfter (s .counter)) where
+    pub spent-ends : p .exhausted ≡ true → stateIn (noKeys device) (s .serial) p ≡ spent device s
+    unfolding spent
+    spent-ends e = rw (← after, e)
 
-  pub spent-goes-on : (s : State K) → positionAfter (s .counter) .exhausted ≡ false
-      → spent device s ≡ stateIn (renewed device (s .keys) (clearedTail (s .serial)) (s .counter)) (s .serial) (positionAfter (s .counter))
-  unfolding spent
-  spent-goes-on s e = rw e
+    pub spent-goes-on : {keys : List K} → p .exhausted ≡ false → keys ≡ renewed device (s .keys) (clearedTail (s .serial)) (s .counter)
+        → stateIn keys (s .serial) p ≡ spent device s
+    unfolding spent
+    spent-goes-on e k = rw (← after, e, k)
 
   -- the state after a key of any valid state that is not exhausted is valid, whatever stands in its filled registers
   module _ (s : State K) (v : Valid device s) (runs : s .exhausted ≡ false) where

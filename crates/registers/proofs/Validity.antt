@@ -12,11 +12,10 @@ use lib.ListN.{length}
 use Rattle.registers.specs.Counters.{bit, Permitted}
 use Rattle.registers.specs.SerialNumber.{counterOf}
 use Rattle.registers.specs.Device.{Device}
-use Rattle.registers.specs.Machine.{State, filledAt, filledMask, Counted, InOrder}
+use Rattle.registers.specs.Machine.{State, filledAt, filledMask, Counted, InOrder, positionOf}
 use Rattle.registers.specs.Private.{Empties}
 use Rattle.registers.specs.Rule.{Fills, Valid}
 use Rattle.registers.specs.Deciding.{fills?}
-use Rattle.registers.specs.declared.positions.Position.{Position}
 use Rattle.registers.proofs.Bits.{same-bits}
 use Rattle.registers.proofs.Places.{Says, is-filled, is-bare, says, mask-is, mask-bit}
 
@@ -39,10 +38,6 @@ runs-counted (inr (f, z)) e = absurd (false≢true (sym e ∙ f))
 pub stops-counted : {exhausted : Bool} {c : ℕ} → Counted exhausted c → exhausted ≡ true → c ≡ 0
 stops-counted (inl (f, ok)) e = absurd (false≢true (sym f ∙ e))
 stops-counted (inr (f, z)) e = z
-
--- the position of a state
-abbrev pub positionOf : {K : Type 0} → State K → Position
-positionOf s = record { counter = s .counter; filled = s .filled; exhausted = s .exhausted }
 
 module _ {K : Type 0} (device : Device K) where
   -- what is tested

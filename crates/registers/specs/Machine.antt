@@ -60,6 +60,10 @@ pub record InOrder (p : Position) : Type 0 where
 abbrev pub stateIn : {K : Type 0} → List K → List ℕ → Position → State K
 stateIn keys serial p = record { keys = keys; filled = p .filled; serial = serial; counter = p .counter; exhausted = p .exhausted }
 
+-- its position
+abbrev pub positionOf : {K : Type 0} → State K → Position
+positionOf s = record { counter = s .counter; filled = s .filled; exhausted = s .exhausted }
+
 module _ {K : Type 0} (device : Device K) where
   -- the key in register b
   abbrev pub keyAt : State K → ℕ → K

@@ -4,12 +4,12 @@ ghost use Prim.Native.Nat.{_+_, _*_, _/_, _%_, _^_};
 ghost use Rattle.registers.specs.SerialNumber.{counterOf, withCounter, clearedTail, clearedHead};
 
 // The counter at the end of a serial number.
-pub fn counter_of(serial: &[u8]) -> u32
-    ensures { λ r. ⌜ r ≡ counterOf (now (serial .entry)) ⌝ }
+pub fn counter_of(serial_number: &[u8]) -> u32
+    ensures { λ r. ⌜ r ≡ counterOf (now («serial_number» .entry)) ⌝ }
 {
-    let high = lent::byte_at(serial, 7) as u32;
-    let middle = lent::byte_at(serial, 8) as u32;
-    let low = lent::byte_at(serial, 9) as u32;
+    let high = lent::byte_at(serial_number, 7) as u32;
+    let middle = lent::byte_at(serial_number, 8) as u32;
+    let low = lent::byte_at(serial_number, 9) as u32;
     high % 32 * 65536 + middle * 256 + low
 }
 
@@ -21,35 +21,35 @@ fn eighth_byte(old: u8, counter: u32) -> u8
 }
 
 // The serial number with its counter replaced.
-pub fn with_counter(serial: &[u8], counter: u32) -> [u8; 10]
-    ensures { λ r. ⌜ r ≡ withCounter (now (serial .entry)) counter ⌝ }
+pub fn with_counter(serial_number: &[u8], counter: u32) -> [u8; 10]
+    ensures { λ r. ⌜ r ≡ withCounter (now («serial_number» .entry)) counter ⌝ }
 {
     [
-        lent::byte_at(serial, 0),
-        lent::byte_at(serial, 1),
-        lent::byte_at(serial, 2),
-        lent::byte_at(serial, 3),
-        lent::byte_at(serial, 4),
-        lent::byte_at(serial, 5),
-        lent::byte_at(serial, 6),
-        eighth_byte(lent::byte_at(serial, 7), counter),
+        lent::byte_at(serial_number, 0),
+        lent::byte_at(serial_number, 1),
+        lent::byte_at(serial_number, 2),
+        lent::byte_at(serial_number, 3),
+        lent::byte_at(serial_number, 4),
+        lent::byte_at(serial_number, 5),
+        lent::byte_at(serial_number, 6),
+        eighth_byte(lent::byte_at(serial_number, 7), counter),
         (counter / 256 % 256) as u8,
         (counter % 256) as u8,
     ]
 }
 
 // The last eight bytes of a serial number with the counter cleared.
-pub fn cleared_tail(serial: &[u8]) -> u64
-    ensures { λ r. ⌜ r ≡ clearedTail (now (serial .entry)) ⌝ }
+pub fn cleared_tail(serial_number: &[u8]) -> u64
+    ensures { λ r. ⌜ r ≡ clearedTail (now («serial_number» .entry)) ⌝ }
 {
-    let cleared = with_counter(serial, 0);
+    let cleared = with_counter(serial_number, 0);
     lent::word_of(&cleared[2..])
 }
 
 // The first eight bytes of a serial number with the low five bits cleared, so that the counter is not in them.
-pub fn cleared_head(serial: &[u8]) -> u64
-    ensures { λ r. ⌜ r ≡ clearedHead (now (serial .entry)) ⌝ }
+pub fn cleared_head(serial_number: &[u8]) -> u64
+    ensures { λ r. ⌜ r ≡ clearedHead (now («serial_number» .entry)) ⌝ }
 {
-    let x = lent::word_of(serial);
+    let x = lent::word_of(serial_number);
     x - x % 32
 }

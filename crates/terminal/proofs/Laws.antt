@@ -1,7 +1,7 @@
 -- Demand 3 of the terminal, and that its record and the state in it are the same thing.
 use mathlib.Core.Path.{_≡_, ap}
 use Prim.Native.Nat.{ℕ}
-use Rattle.registers.specs.Machine.{State}
+use Rattle.registers.specs.Machine.{State, positionOf}
 use Rattle.registers.specs.Demand.{Demand3}
 use Rattle.registers.specs.Records.{byRecord}
 use Rattle.registers.proofs.Laws as registers
@@ -15,5 +15,4 @@ demand3 = registers.demand3 singleLength lawful
 
 -- records with the same state are the same
 pub view-same : {t u : Terminal} → view t ≡ view u → t ≡ u
-view-same e =
-    ap (λ (s : State ℕ). record { keys = s .keys; filled = s .filled; serial = s .serial; counter = s .counter; exhausted = s .exhausted }) e
+view-same e = ap (λ (s : State ℕ). record { keys = s .keys; serial = s .serial; position = positionOf s }) e

@@ -1,7 +1,7 @@
--- The terminal's record as a state of the register machine (01, Terminal keys), part by part.
+-- The terminal's record as a state of the register machine (01, Terminal keys).
 use Prim.Native.Nat.{ℕ}
-use Rattle.registers.specs.Machine.{State}
+use Rattle.registers.specs.Machine.{State, stateIn}
 use Rattle.terminal.specs.declared.state.Terminal.{Terminal}
 
 abbrev pub view : Terminal → State ℕ
-view t = record { keys = t .keys; filled = t .filled; serial = t .serial; counter = t .counter; exhausted = t .exhausted }
+view t = stateIn (t .keys) (t .serial) (t .position)

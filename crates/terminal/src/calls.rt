@@ -1,7 +1,6 @@
 // The terminal's call for its next key.
 use crate::filling::renewed;
 use crate::state::Terminal;
-use crate::state::placed;
 use crate::state::valid;
 ghost use mathlib.Core.Path.{_≡_};
 ghost use lib.ListN.{replicate};
@@ -34,26 +33,35 @@ fn refused(number: u32, t: Terminal) -> NextKey
 
 // The key of the next counter: it stands in the register of the counter's lowest one bit.
 fn ready_key(t: Terminal) -> u64
-    requires { ⌜ Permitted (t .counter) ⌝ }
+    requires { ⌜ Permitted (t .position .counter) ⌝ }
     ensures { λ r. ⌜ r ≡ readyKey singleLength (view t) ⌝ }
 {
-    let l = registers::lowest_place(t.counter);
+    let l = registers::lowest_place(t.position.counter);
     t.keys[l]
 }
 
 // The record after the key of its counter was given out.
 fn after_key(t: Terminal) -> Terminal
-    requires { ⌜ Permitted (t .counter) ⌝ }
+    requires { ⌜ Permitted (t .position .counter) ⌝ }
     ensures { λ r. ⌜ view r ≡ spent singleLength (view t) ⌝ }
 {
     let old = t.keys;
     let serial = t.serial;
-    let position = registers::position_after(t.counter);
+    let counter = t.position.counter;
+    let position = registers::position_after(counter);
     if position.exhausted {
-        return placed([0u64; 21], serial, position);
+        return Terminal {
+            keys: [0u64; 21],
+            serial,
+            position,
+        };
     }
-    let keys = renewed(old, registers::cleared_tail(&serial), t.counter);
-    placed(keys, serial, position)
+    let keys = renewed(old, registers::cleared_tail(&serial), counter);
+    Terminal {
+        keys,
+        serial,
+        position,
+    }
 }
 
 // Gives out the next key, in the first eight bytes of `out`. Refuses with 11 if the record does not hang together, 12 if it is exhausted, 13 if
@@ -64,7 +72,7 @@ pub fn next_key(t: Terminal, out: &mut [u8]) -> NextKey
     if !valid(t) {
         return refused(lent::BAD_RECORD, t);
     }
-    if t.exhausted {
+    if t.position.exhausted {
         return refused(lent::EXHAUSTED, t);
     }
     if out.len() < 8 {
@@ -72,7 +80,7 @@ pub fn next_key(t: Terminal, out: &mut [u8]) -> NextKey
     }
     lent::lend_word(host::given_out(ready_key(t)), out);
     let serial = t.serial;
-    let counter = t.counter;
+    let counter = t.position.counter;
     NextKey {
         number: lent::DONE,
         counter,

@@ -1,7 +1,7 @@
 // Loading a terminal.
 use crate::filling::filled_from;
 use crate::state::Terminal;
-use crate::state::placed;
+use registers::Position;
 ghost use mathlib.Core.Path.{_≡_};
 ghost use Rattle.lent.specs.Refusals.{numberOf, size};
 ghost use Rattle.registers.specs.Machine.{zeroState};
@@ -23,39 +23,41 @@ fn refused() -> Loaded
         number: lent::SIZE,
         terminal: Terminal {
             keys: [0u64; 21],
-            filled: 0,
             serial: [0u8; 10],
-            counter: 0,
-            exhausted: false,
+            position: Position {
+                counter: 0,
+                filled: 0,
+                exhausted: false,
+            },
         },
     }
 }
 
 // Loads a terminal with an initial key and a serial number, whose counter is cleared. Refuses with 6 if the key does not have 8 bytes or the
 // serial number 10. Counter 1 is next. A refusal answers the all-zero record.
-pub fn load(initial: &[u8], serial: &[u8]) -> Loaded
-    ensures { λ r. ⌜ Load singleLength (now (initial .entry)) (now (serial .entry)) (r .number) (view (r .terminal)) ⌝ }
+pub fn load(initial_key: &[u8], serial_number: &[u8]) -> Loaded
+    ensures { λ r. ⌜ Load singleLength (now («initial_key» .entry)) (now («serial_number» .entry)) (r .number) (view (r .terminal)) ⌝ }
 {
-    if initial.len() != 8 {
+    if initial_key.len() != 8 {
         return refused();
     }
-    if serial.len() != 10 {
+    if serial_number.len() != 10 {
         return refused();
     }
     let empty = [0u64; 21];
     let keys = filled_from(
         empty,
         21,
-        lent::word_of(initial),
-        registers::cleared_tail(serial),
+        lent::word_of(initial_key),
+        registers::cleared_tail(serial_number),
         0,
     );
     Loaded {
         number: lent::DONE,
-        terminal: placed(
+        terminal: Terminal {
             keys,
-            registers::with_counter(serial, 0),
-            registers::position_at(1),
-        ),
+            serial: registers::with_counter(serial_number, 0),
+            position: registers::position_at(1),
+        },
     }
 }

@@ -3,33 +3,16 @@ use registers::Position;
 ghost use mathlib.Core.Path.{_≡_};
 ghost use mathlib.Core.Bool.{true};
 ghost use mathlib.Core.Logic.{_↔_};
-ghost use Rattle.registers.specs.Machine.{stateIn};
 ghost use Rattle.registers.specs.Rule.{Valid};
 ghost use Rattle.registers.specs.Private.{Empties};
 ghost use Rattle.host.specs.SingleLength.{singleLength};
 ghost use Rattle.terminal.specs.View.{view};
 
-// Twenty-one registers of eight bytes, which of them are filled (bit b for register b), the serial number with its counter cleared, the
-// counter to be given out next, and whether the terminal is exhausted.
+// Twenty-one registers of eight bytes, the serial number with its counter cleared, and where the terminal stands.
 pub struct Terminal {
     pub keys: [u64; 21],
-    pub filled: u32,
     pub serial: [u8; 10],
-    pub counter: u32,
-    pub exhausted: bool,
-}
-
-// The record with these keys and that serial number, in a position.
-pub(crate) fn placed(keys: [u64; 21], serial: [u8; 10], p: Position) -> Terminal
-    ensures { λ r. ⌜ view r ≡ stateIn keys serial p ⌝ }
-{
-    Terminal {
-        keys,
-        filled: p.filled,
-        serial,
-        counter: p.counter,
-        exhausted: p.exhausted,
-    }
+    pub position: Position,
 }
 
 // Whether every empty register is zero.
@@ -38,7 +21,7 @@ fn empties(t: Terminal) -> bool
 {
     let mut b: usize = 0;
     while b < 21 {
-        if (t.filled >> b) % 2 == 0 {
+        if (t.position.filled >> b) % 2 == 0 {
             if t.keys[b] != 0 {
                 return false;
             }
@@ -56,11 +39,7 @@ pub(crate) fn valid(t: Terminal) -> bool
     if registers::counter_of(&serial) != 0 {
         return false;
     }
-    if !registers::in_order(Position {
-        counter: t.counter,
-        filled: t.filled,
-        exhausted: t.exhausted,
-    }) {
+    if !registers::in_order(t.position) {
         return false;
     }
     empties(t)

@@ -5,6 +5,7 @@ use crate::random::Random;
 use chizuregwo::lent::{self, WrittenText};
 use chizuregwo::Error;
 use second::cleaning::{self, Counted};
+use second::dukpt::{Double, Single};
 use second::entries::{decrypt, encrypt, terminal_load};
 use second::numbers::{meaning, Answer};
 use second::{card, dukpt, key_entry, mac, message as messages, password, pin, vip};
@@ -242,7 +243,8 @@ fn card_data(random: &mut Random) -> Vec<u8> {
 }
 
 /// A derivation key; once in eight with halves that are equal, or differ in low
-/// bits alone, or differ in one other bit and perhaps in low bits.
+/// bits alone, or differ in one other bit or by the mask of double length, and
+/// perhaps in low bits.
 fn derivation_key(random: &mut Random) -> Vec<u8> {
     let mut key = random.sized(16);
     if key.len() == 16 && random.once_in(8) {
@@ -254,8 +256,10 @@ fn derivation_key(random: &mut Random) -> Vec<u8> {
             _ => random.below(256),
         };
         (0..8).for_each(|i| key[8 + i] ^= (low_bits >> i & 1) as u8);
-        if random.once_in(3) {
-            key[random.between(8, 15)] ^= 2 << random.below(7);
+        match random.below(6) {
+            0 | 1 => key[random.between(8, 15)] ^= 2 << random.below(7),
+            2 => (8..12).for_each(|i| key[i] ^= 0xC0),
+            _ => (),
         }
     }
     key
@@ -280,6 +284,11 @@ fn serial_number(random: &mut Random) -> Vec<u8> {
         serial = dukpt::with_counter(&array, counter).to_vec();
     }
     serial
+}
+
+/// A derivation key and a serial number.
+fn host_input(random: &mut Random) -> Input {
+    parts(vec![derivation_key(random), serial_number(random)])
 }
 
 /// A card sequence as the entries take it.
@@ -343,26 +352,26 @@ pub const VIP_READ: Entry<Vec<u8>> = Entry {
 };
 
 /// Every entry that writes one buffer, but for those that clean a text. The shares make a thousand with those and the
-/// terminal's next key.
-pub const ENTRIES: [Entry<Vec<u8>>; 25] = [
+/// next keys of both kinds of terminal.
+pub const ENTRIES: [Entry<Vec<u8>>; 28] = [
     MEANING,
     Entry {
         name: "encrypt",
-        share: 40,
+        share: 35,
         input: cipher_input,
         library: |i, out| lent::encrypt(&i.parts[0], &i.parts[1], out),
         second: |i| encrypt(&i.parts[0], &i.parts[1]),
     },
     Entry {
         name: "decrypt",
-        share: 40,
+        share: 35,
         input: cipher_input,
         library: |i, out| lent::decrypt(&i.parts[0], &i.parts[1], out),
         second: |i| decrypt(&i.parts[0], &i.parts[1]),
     },
     Entry {
         name: "key_entry",
-        share: 50,
+        share: 35,
         input: key_entry_input,
         library: |i, out| lent::key_entry(&i.parts[0], wanted(i), out),
         second: |i| key_entry::key_entry(&i.parts[0], wanted(i), ENOUGH),
@@ -489,24 +498,46 @@ pub const ENTRIES: [Entry<Vec<u8>>; 25] = [
     },
     Entry {
         name: "initial_key",
-        share: 25,
-        input: |random| parts(vec![derivation_key(random), serial_number(random)]),
+        share: 20,
+        input: host_input,
         library: |i, out| lent::initial_key(&i.parts[0], &i.parts[1], out),
-        second: |i| dukpt::initial_key(&i.parts[0], &i.parts[1]),
+        second: |i| dukpt::initial_key::<Single>(&i.parts[0], &i.parts[1]),
     },
     Entry {
         name: "host_key",
-        share: 30,
-        input: |random| parts(vec![derivation_key(random), serial_number(random)]),
+        share: 25,
+        input: host_input,
         library: |i, out| lent::host_key(&i.parts[0], &i.parts[1], out),
-        second: |i| dukpt::host_key(&i.parts[0], &i.parts[1]),
+        second: |i| dukpt::host_key::<Single>(&i.parts[0], &i.parts[1]),
     },
     Entry {
         name: "terminal_load",
         share: 15,
         input: |random| parts(vec![random.sized(8), serial_number(random)]),
         library: |i, out| lent::terminal_load(&i.parts[0], &i.parts[1], out),
-        second: |i| terminal_load(&i.parts[0], &i.parts[1]),
+        second: |i| terminal_load::<Single>(&i.parts[0], &i.parts[1]),
+    },
+    Entry {
+        name: "double_initial_key",
+        share: 20,
+        input: host_input,
+        library: |i, out| lent::double_initial_key(&i.parts[0], &i.parts[1], out),
+        second: |i| dukpt::initial_key::<Double>(&i.parts[0], &i.parts[1]),
+    },
+    Entry {
+        name: "double_host_key",
+        share: 20,
+        input: host_input,
+        library: |i, out| lent::double_host_key(&i.parts[0], &i.parts[1], out),
+        second: |i| dukpt::host_key::<Double>(&i.parts[0], &i.parts[1]),
+    },
+    Entry {
+        name: "double_terminal_load",
+        share: 10,
+        // The halves of an initial key are not compared: now and then they are the same.
+        input: host_input,
+        library: |i, out| lent::double_terminal_load(&i.parts[0], &i.parts[1], out),
+        second: |i| terminal_load::<Double>(&i.parts[0], &i.parts[1]),
     },
 ];
 
@@ -514,14 +545,14 @@ pub const ENTRIES: [Entry<Vec<u8>>; 25] = [
 pub const TEXT_ENTRIES: [Entry<Counted>; 4] = [
     Entry {
         name: "clean",
-        share: 80,
+        share: 60,
         input: |random| parts(vec![text(random, 200)]),
         library: |i, out| lent::clean(&i.parts[0], out),
         second: |i| cleaning::clean(&i.parts[0], ENOUGH),
     },
     Entry {
         name: "message_text",
-        share: 100,
+        share: 80,
         input: |random| parts(vec![message(random)]),
         library: |i, out| lent::message_text(&i.parts[0], out),
         second: |i| messages::message_text(&i.parts[0], ENOUGH),
@@ -535,7 +566,7 @@ pub const TEXT_ENTRIES: [Entry<Counted>; 4] = [
     },
     Entry {
         name: "message_mac",
-        share: 40,
+        share: 35,
         input: |random| parts(vec![random.sized(8), message(random)]),
         library: |i, out| lent::message_mac(&i.parts[0], &i.parts[1], out),
         second: |i| mac::message_mac(&i.parts[0], &i.parts[1]),

@@ -2,9 +2,9 @@
 //!
 //! COUNT seeded inputs (200,000 if not given) over every entry, whole and damaged, long and short, with buffers of any
 //! room; then the meanings with every room; then password and VIP blocks with lengths of every kind, and with each byte
-//! through all 256 values; then records damaged byte by byte; then one terminal drained of KEYS keys (all 1,048,575 if not
-//! given). Prints a line for each kind and how often each number was answered. Ends at the first difference with its
-//! input, status 1.
+//! through all 256 values; then records damaged byte by byte; then two terminals, of single and of double length, drained
+//! of KEYS keys each (all 1,048,575 if not given). Prints a line for each kind and how often each number was answered. Ends
+//! at the first difference with its input, status 1.
 //!
 //! Each entry must have answered every refusal that chizuregwo.h lists with it, and no other, and every entry of the
 //! header must have been called, but for czg_version, which answers no refusal. Of the entries that answer a
@@ -24,12 +24,14 @@ use blocks::{PASSWORD, VIP};
 use entries::{Entry, Value, ENTRIES, TEXT_ENTRIES};
 use header::Listed;
 use random::Random;
+use second::dukpt::Key;
 use std::collections::BTreeMap;
 use std::process::ExitCode;
 use std::time::Instant;
+use terminals::{Device, ALL_KEYS, DOUBLE, SINGLE};
 
-/// Share of the terminal's next key of every thousand inputs.
-const NEXT_KEY_SHARE: usize = 40;
+/// Share of each kind of terminal's next key of every thousand inputs.
+const NEXT_KEY_SHARE: usize = 35;
 
 /// The shares of some entries together.
 const fn share_of<V: Value>(entries: &[Entry<V>]) -> usize {
@@ -42,7 +44,7 @@ const fn share_of<V: Value>(entries: &[Entry<V>]) -> usize {
 }
 
 // The shares make a thousand.
-const _: () = assert!(share_of(&ENTRIES) + share_of(&TEXT_ENTRIES) + NEXT_KEY_SHARE == 1000);
+const _: () = assert!(share_of(&ENTRIES) + share_of(&TEXT_ENTRIES) + 2 * NEXT_KEY_SHARE == 1000);
 
 /// One key in so many of the drain is compared with the second implementation's.
 const SAMPLE: usize = 1009;
@@ -80,7 +82,7 @@ impl Seen {
             .map(|number| format!("{number}: {}", self.0[number]))
             .collect();
         println!(
-            "{kind:24} {inputs:>8} inputs, {:>8} done; refused {}",
+            "{kind:27} {inputs:>8} inputs, {:>8} done; refused {}",
             self.0[0],
             refused.join(", ")
         );
@@ -144,10 +146,10 @@ struct Asked {
 fn asked() -> Result<Asked, String> {
     let asked = Asked {
         count: argument(1, 200_000)? as usize,
-        keys: argument(2, terminals::ALL_KEYS as u64)? as usize,
+        keys: argument(2, ALL_KEYS as u64)? as usize,
         seed: argument(3, 20_241_115)?,
     };
-    if asked.count < LEAST_COUNT || asked.keys > terminals::ALL_KEYS || std::env::args().len() > 4 {
+    if asked.count < LEAST_COUNT || asked.keys > ALL_KEYS || std::env::args().len() > 4 {
         return Err(
             "usage: differential [COUNT [KEYS [SEED]]], COUNT at least 10000, KEYS at most 1048575"
                 .to_string(),
@@ -171,15 +173,41 @@ fn shares<V: Value>(
     Ok(())
 }
 
+/// The next key of one kind of terminal on its share of the inputs.
+fn next_keys<K: Key>(
+    device: &Device<K>,
+    random: &mut Random,
+    count: usize,
+    all: &mut All,
+) -> Result<(), String> {
+    let share = count * NEXT_KEY_SHARE / 1000;
+    run(device.next_key_name, share, all, || device.compare(random))
+}
+
+/// Records of one kind of terminal damaged byte by byte.
+fn damaged_records<K: Key>(
+    device: &Device<K>,
+    random: &mut Random,
+    count: usize,
+    all: &mut All,
+) -> Result<(), String> {
+    let kind = format!("{} records byte by byte", device.length);
+    let mut numbers = Vec::new();
+    for _ in 0..1 + count / 20_000 {
+        let damaged = device.byte_by_byte(random);
+        numbers.extend(damaged.map_err(|difference| format!("{kind}: {difference}"))?);
+    }
+    Seen::of(numbers).print(&kind, device.next_key_name, all);
+    Ok(())
+}
+
 /// Every entry on seeded inputs, then the meanings room by room, the blocks of passwords and VIP numbers, and records damaged
 /// byte by byte.
 fn inputs(random: &mut Random, count: usize, all: &mut All) -> Result<(), String> {
     shares(&ENTRIES, random, count, all)?;
     shares(&TEXT_ENTRIES, random, count, all)?;
-    let next_keys = count * NEXT_KEY_SHARE / 1000;
-    run("terminal_next_key", next_keys, all, || {
-        terminals::compare(random)
-    })?;
+    next_keys(&SINGLE, random, count, all)?;
+    next_keys(&DOUBLE, random, count, all)?;
     let meanings = compare::room_by_room(random)?;
     Seen::of(meanings).print("meanings room by room", "meaning", all);
     for (texts, kind) in [("passwords", &PASSWORD), ("VIP numbers", &VIP)] {
@@ -188,12 +216,8 @@ fn inputs(random: &mut Random, count: usize, all: &mut All) -> Result<(), String
         let bytes = Seen::of(kind.byte_by_byte(random)?);
         bytes.print(&format!("{texts} byte by byte"), kind.entry.name, all);
     }
-    let mut records = Vec::new();
-    for _ in 0..1 + count / 20_000 {
-        records.extend(terminals::byte_by_byte(random)?);
-    }
-    Seen::of(records).print("records byte by byte", "terminal_next_key", all);
-    Ok(())
+    damaged_records(&SINGLE, random, count, all)?;
+    damaged_records(&DOUBLE, random, count, all)
 }
 
 /// Holds what the entries answered to the header's list: the same entries, and each its refusals, and its counts where it
@@ -224,6 +248,21 @@ fn same_refusals(listed: &[Listed], all: &All, least: usize) -> Result<(), Strin
     }
 }
 
+/// One terminal of a kind drained of so many keys.
+fn drain<K: Key>(device: &Device<K>, random: &mut Random, keys: usize) -> Result<(), String> {
+    let (sampled, reached) = device.drain(random, keys, SAMPLE)?;
+    let length = device.length;
+    println!(
+        "{:27} {keys:>8} keys, each the host's; {sampled} compared with the second implementation",
+        format!("{length} drain")
+    );
+    println!(
+        "{:27} {reached:>8} counters of its records, each under one filled register, or under none once given",
+        format!("{length} reach")
+    );
+    Ok(())
+}
+
 /// All of it.
 fn differential() -> Result<(), String> {
     let Asked { count, keys, seed } = asked()?;
@@ -236,10 +275,12 @@ fn differential() -> Result<(), String> {
     let least = (count / PAIR_IN).max(1);
     same_refusals(&listed, &all, least)?;
     let pairs: usize = listed.iter().map(|entry| entry.refusals.len()).sum();
-    println!("header                   {pairs:>8} pairs of an entry and a refusal, each answered {least} times or more");
-    let (sampled, reached) = terminals::drain(&mut random, keys, SAMPLE)?;
-    println!("drain                    {keys:>8} keys, each the host's; {sampled} compared with the second implementation");
-    println!("reach                    {reached:>8} counters of its records, each under one filled register, or under none once given");
+    println!(
+        "{:27} {pairs:>8} pairs of an entry and a refusal, each answered {least} times or more",
+        "header"
+    );
+    drain(&SINGLE, &mut random, keys)?;
+    drain(&DOUBLE, &mut random, keys)?;
     let inputs: usize = all.values().flat_map(|seen| seen.0).sum();
     println!(
         "differential: ok, {inputs} inputs, {:.0} s",

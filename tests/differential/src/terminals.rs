@@ -1,16 +1,58 @@
-//! The terminal's next key: records whole, damaged and damaged byte by byte, and the drain of one terminal.
+//! The next key of both kinds of terminal: records whole, damaged and damaged byte by byte, and the drain of one terminal.
 
 use crate::compare::{called, same_answer, Lent};
 use crate::entries::counter;
 use crate::random::Random;
 use chizuregwo::{lent, Error};
-use second::bytes::hex;
-use second::dukpt::{self, Record, RECORD_BYTES, REGISTERS};
+use second::bytes::{array, hex};
+use second::dukpt::{self, Double, Key, Record, Single, REGISTERS};
 use second::entries::terminal_next_key;
 use second::numbers::EXHAUSTED;
 
 /// Keys that a terminal gives.
 pub const ALL_KEYS: usize = 1_048_575;
+
+/// Derives a key from a derivation key and a serial number.
+type Derive<K> = fn(&[u8], &[u8]) -> Result<K, Error>;
+/// Loads a terminal with an initial key and a serial number: writes the record.
+type Load = fn(&[u8], &[u8], &mut [u8]) -> Result<usize, Error>;
+/// Calls for the next key: changes the record, writes the key and the serial number.
+type CallForKey = fn(&mut [u8], &mut [u8], &mut [u8]) -> Result<usize, Error>;
+
+/// A kind of terminal, and how the library is called for it.
+pub struct Device<K> {
+    /// The length of its keys.
+    pub length: &'static str,
+    /// The name of the entry for its next key in the header, without `czg_`.
+    pub next_key_name: &'static str,
+    initial_key: Derive<K>,
+    host_key: Derive<K>,
+    load: Load,
+    next_key: CallForKey,
+}
+
+pub const SINGLE: Device<Single> = Device {
+    length: "single",
+    next_key_name: "terminal_next_key",
+    initial_key: chizuregwo::initial_key,
+    host_key: chizuregwo::host_key,
+    load: lent::terminal_load,
+    next_key: lent::terminal_next_key,
+};
+
+pub const DOUBLE: Device<Double> = Device {
+    length: "double",
+    next_key_name: "double_terminal_next_key",
+    initial_key: chizuregwo::double_initial_key,
+    host_key: chizuregwo::double_host_key,
+    load: lent::double_terminal_load,
+    next_key: lent::double_terminal_next_key,
+};
+
+/// A key of any bytes.
+fn any_key<K: Key>(random: &mut Random) -> K {
+    array(&random.bytes(K::SIZE))
+}
 
 /// Which registers are filled when a counter is next (01, Terminal keys): its lowest one bit's, and those above it whose
 /// bit is 0.
@@ -20,10 +62,10 @@ fn is_filled(counter: u32, b: usize) -> bool {
 }
 
 /// The record with a counter next and these keys in its filled registers.
-fn with_keys(serial: [u8; 10], counter: u32, key: impl Fn(usize) -> [u8; 8]) -> Record {
+fn with_keys<K: Key>(serial: [u8; 10], counter: u32, key: impl Fn(usize) -> K) -> Record<K> {
     let filled = |b: &usize| is_filled(counter, *b);
     Record {
-        keys: std::array::from_fn(|b| if filled(&b) { key(b) } else { [0; 8] }),
+        keys: std::array::from_fn(|b| if filled(&b) { key(b) } else { K::ZERO }),
         filled: (0..REGISTERS).filter(filled).map(|b| 1 << b).sum(),
         serial: dukpt::with_counter(&serial, 0),
         counter,
@@ -32,9 +74,9 @@ fn with_keys(serial: [u8; 10], counter: u32, key: impl Fn(usize) -> [u8; 8]) -> 
 }
 
 /// The record of an exhausted terminal.
-fn exhausted(serial: [u8; 10]) -> Record {
+fn exhausted<K: Key>(serial: [u8; 10]) -> Record<K> {
     Record {
-        keys: [[0; 8]; REGISTERS],
+        keys: [K::ZERO; REGISTERS],
         filled: 0,
         serial: dukpt::with_counter(&serial, 0),
         counter: 0,
@@ -67,32 +109,33 @@ fn permitted(random: &mut Random) -> u32 {
 }
 
 /// A record that hangs together, with any keys; once in eight an exhausted one.
-fn whole(random: &mut Random) -> Record {
+fn whole<K: Key>(random: &mut Random) -> Record<K> {
     let serial = random.array();
     if random.once_in(8) {
         return exhausted(serial);
     }
     let counter = permitted(random);
-    let keys: [[u8; 8]; REGISTERS] = std::array::from_fn(|_| random.array());
+    let keys: [K; REGISTERS] = std::array::from_fn(|_| any_key(random));
     with_keys(serial, counter, |b| keys[b])
 }
 
 /// A record's bytes, half of them damaged.
-fn record_bytes(random: &mut Random) -> Vec<u8> {
-    let mut record = whole(random);
+fn record_bytes<K: Key>(random: &mut Random) -> Vec<u8> {
+    let mut record = whole::<K>(random);
     match random.below(16) {
         0 => record.counter = random.next() as u32,
         1 => record.counter = counter(random),
         2 => record.filled ^= 1 << random.below(32),
         3 => record.exhausted ^= true,
         4 => record.serial[random.between(7, 9)] ^= 1 << random.below(8),
-        5 => record.keys[random.below(REGISTERS)] = random.array(),
+        5 => record.keys[random.below(REGISTERS)] = any_key(random),
         _ => (),
     }
     let mut bytes = dukpt::to_bytes(&record);
+    let size = bytes.len();
     match random.below(16) {
-        0 => bytes.resize(random.one_of(&[0, 1, 8, 186, 188, 200, 374]), 0),
-        1 => bytes[186] = random.next() as u8,
+        0 => bytes.resize(other_size(random, size), 0),
+        1 => bytes[size - 1] = random.next() as u8,
         2 => random.spoil(&mut bytes, b"\0\x01\xFF"),
         3 => bytes.fill(0),
         _ => (),
@@ -100,74 +143,85 @@ fn record_bytes(random: &mut Random) -> Vec<u8> {
     bytes
 }
 
-/// One call for the next key through both, every byte of the three buffers compared; gives the number.
-fn compare_call(
-    random: &mut Random,
-    bytes: &[u8],
-    key_room: usize,
-    serial_room: usize,
-) -> Result<u8, String> {
-    let expected = terminal_next_key(bytes, key_room, serial_room);
-    let mut record = Lent::new(random, bytes.len());
-    record.start_with(bytes);
-    let mut key = Lent::new(random, key_room);
-    let mut serial = Lent::new(random, serial_room);
-    let answer = called(|| lent::terminal_next_key(record.bytes(), key.bytes(), serial.bytes()));
-    let same = || {
-        let answered = expected
-            .as_ref()
-            .map(|next| next.key.to_vec())
-            .map_err(|number| *number);
-        let number = same_answer(answer?, &answered)?;
-        match &expected {
-            Ok(next) => {
-                record.holds(&dukpt::to_bytes(&next.record))?;
-                key.holds(&next.key)?;
-                serial.holds(&next.serial)?;
-            }
-            Err(_) => {
-                record.holds(&[])?;
-                key.holds(&[])?;
-                serial.holds(&[])?;
-            }
-        }
-        Ok(number)
-    };
-    same().map_err(|difference: String| {
-        format!(
-            "record {} key room {key_room} serial room {serial_room}: {difference}",
-            hex(bytes)
-        )
-    })
+/// A size that a record of so many bytes does not have: that of the other kind's too.
+fn other_size(random: &mut Random, size: usize) -> usize {
+    let other = Record::<Single>::BYTES + Record::<Double>::BYTES - size;
+    random.one_of(&[0, 1, 8, size - 1, size + 1, size + 13, 2 * size, other])
 }
 
-/// One call on a record, whole or damaged, with buffers of any room.
-pub fn compare(random: &mut Random) -> Result<u8, String> {
-    let bytes = record_bytes(random);
-    let key_room = random.one_of(&[8, 8, 8, 8, 9, 16, 30, 7, 0]);
-    let serial_room = random.one_of(&[10, 10, 10, 10, 11, 16, 30, 9, 0]);
-    compare_call(random, &bytes, key_room, serial_room)
-}
-
-/// One record damaged in each byte: each bit turned, then 0 and FF put there. Gives the numbers.
-pub fn byte_by_byte(random: &mut Random) -> Result<Vec<u8>, String> {
-    let whole = dukpt::to_bytes(&whole(random));
-    let mut numbers = Vec::new();
-    for place in 0..RECORD_BYTES {
-        let old = whole[place];
-        let turned = (0..8).map(|bit| old ^ 1 << bit);
-        for new in turned.chain([0, 0xFF]) {
-            let mut damaged = whole.clone();
-            damaged[place] = new;
-            numbers.push(compare_call(random, &damaged, 8, 10)?);
-        }
+impl<K: Key> Device<K> {
+    /// One call for the next key through both, every byte of the three buffers compared; gives the number.
+    fn compare_call(
+        &self,
+        random: &mut Random,
+        bytes: &[u8],
+        key_room: usize,
+        serial_room: usize,
+    ) -> Result<u8, String> {
+        let expected = terminal_next_key::<K>(bytes, key_room, serial_room);
+        let mut record = Lent::new(random, bytes.len());
+        record.start_with(bytes);
+        let mut key = Lent::new(random, key_room);
+        let mut serial = Lent::new(random, serial_room);
+        let answer = called(|| (self.next_key)(record.bytes(), key.bytes(), serial.bytes()));
+        let same = || {
+            let answered = expected
+                .as_ref()
+                .map(|next| next.key.as_ref().to_vec())
+                .map_err(|number| *number);
+            let number = same_answer(answer?, &answered)?;
+            match &expected {
+                Ok(next) => {
+                    record.holds(&dukpt::to_bytes(&next.record))?;
+                    key.holds(next.key.as_ref())?;
+                    serial.holds(&next.serial)?;
+                }
+                Err(_) => {
+                    record.holds(&[])?;
+                    key.holds(&[])?;
+                    serial.holds(&[])?;
+                }
+            }
+            Ok(number)
+        };
+        same().map_err(|difference: String| {
+            format!(
+                "record {} key room {key_room} serial room {serial_room}: {difference}",
+                hex(bytes)
+            )
+        })
     }
-    Ok(numbers)
+
+    /// One call on a record, whole or damaged, with buffers of any room.
+    pub fn compare(&self, random: &mut Random) -> Result<u8, String> {
+        let bytes = record_bytes::<K>(random);
+        let size = K::SIZE;
+        let key_rooms = [size, size, size, size, size + 1, 2 * size, 30, size - 1, 0];
+        let key_room = random.one_of(&key_rooms);
+        let serial_room = random.one_of(&[10, 10, 10, 10, 11, 16, 30, 9, 0]);
+        self.compare_call(random, &bytes, key_room, serial_room)
+    }
+
+    /// One record damaged in each byte: each bit turned, then 0 and FF put there. Gives the numbers.
+    pub fn byte_by_byte(&self, random: &mut Random) -> Result<Vec<u8>, String> {
+        let whole = dukpt::to_bytes(&whole::<K>(random));
+        let mut numbers = Vec::new();
+        for place in 0..whole.len() {
+            let old = whole[place];
+            let turned = (0..8).map(|bit| old ^ 1 << bit);
+            for new in turned.chain([0, 0xFF]) {
+                let mut damaged = whole.clone();
+                damaged[place] = new;
+                numbers.push(self.compare_call(random, &damaged, K::SIZE, 10)?);
+            }
+        }
+        Ok(numbers)
+    }
 }
 
 /// What the second implementation says that a terminal's record holds when a counter is next: each filled register the
 /// register key of the counter's bits above it, plus its own.
-fn described(initial: [u8; 8], serial: [u8; 10], counter: u32) -> Record {
+fn described<K: Key>(initial: K, serial: [u8; 10], counter: u32) -> Record<K> {
     with_keys(serial, counter, |b| {
         let above = counter >> b >> 1 << 1 << b;
         dukpt::register_key(initial, &serial, above + (1 << b))
@@ -175,11 +229,12 @@ fn described(initial: [u8; 8], serial: [u8; 10], counter: u32) -> Record {
 }
 
 /// A terminal that is drained, with what the host knows of it and the counters that it has given out.
-struct Drained {
+struct Drained<'a, K> {
+    device: &'a Device<K>,
     derivation: [u8; 16],
     serial: [u8; 10],
-    initial: [u8; 8],
-    record: [u8; RECORD_BYTES],
+    initial: K,
+    record: Vec<u8>,
     given: Vec<bool>,
 }
 
@@ -189,14 +244,15 @@ fn counters(first: usize, step: usize) -> impl Iterator<Item = u32> {
     numbers.filter(|counter| counter.count_ones() <= 10)
 }
 
-impl Drained {
+impl<'a, K: Key> Drained<'a, K> {
     /// A terminal just loaded.
-    fn loaded(random: &mut Random) -> Result<Drained, Error> {
+    fn loaded(device: &'a Device<K>, random: &mut Random) -> Result<Self, Error> {
         let (derivation, serial) = (random.array(), random.array());
-        let initial = chizuregwo::initial_key(&derivation, &serial)?;
-        let mut record = [0; RECORD_BYTES];
-        lent::terminal_load(&initial, &serial, &mut record)?;
+        let initial = (device.initial_key)(&derivation, &serial)?;
+        let mut record = vec![0; Record::<K>::BYTES];
+        (device.load)(initial.as_ref(), &serial, &mut record)?;
         Ok(Drained {
+            device,
             derivation,
             serial,
             initial,
@@ -205,20 +261,25 @@ impl Drained {
         })
     }
 
+    /// The library's host key for a serial number.
+    fn host_key(&self, serial: &[u8; 10]) -> Result<K, String> {
+        (self.device.host_key)(&self.derivation, serial).map_err(|e| e.to_string())
+    }
+
     /// Calls for the next key: it must come with this counter and be the library's host key.
     fn call(&mut self, counter: u32) -> Result<(), String> {
-        let (mut key, mut serial) = ([0; 8], [0; 10]);
-        lent::terminal_next_key(&mut self.record, &mut key, &mut serial)
+        let (mut key, mut serial) = (vec![0; K::SIZE], [0; 10]);
+        (self.device.next_key)(&mut self.record, &mut key, &mut serial)
             .map_err(|e| e.to_string())?;
         if serial != dukpt::with_counter(&self.serial, counter) {
             return Err(format!("given out with serial number {}", hex(&serial)));
         }
-        let host = chizuregwo::host_key(&self.derivation, &serial).map_err(|e| e.to_string())?;
-        if key != host {
+        let host = self.host_key(&serial)?;
+        if key != host.as_ref() {
             return Err(format!(
                 "key {} where the host has {}",
                 hex(&key),
-                hex(&host)
+                hex(host.as_ref())
             ));
         }
         self.given[counter as usize] = true;
@@ -228,9 +289,8 @@ impl Drained {
     /// Each of these counters must lie under exactly one filled register of the record, or under none if it was given out
     /// (02, M-101). Gives how many they are.
     fn reach(&self, counters: impl Iterator<Item = u32>) -> Result<usize, String> {
-        let record =
-            dukpt::from_bytes(&self.record).map_err(|number| format!("record: {number}"))?;
-        let labels = dukpt::labels(&record);
+        let record = dukpt::from_bytes::<K>(&self.record);
+        let labels = dukpt::labels(&record.map_err(|number| format!("record: {number}"))?);
         let mut checked = 0;
         for counter in counters {
             let over = labels
@@ -252,7 +312,7 @@ impl Drained {
     fn sample(&self, counter: u32) -> Result<(), String> {
         let cleared = dukpt::with_counter(&self.serial, 0);
         let described = dukpt::to_bytes(&described(self.initial, cleared, counter));
-        if self.record[..] != described {
+        if self.record != described {
             return Err(format!(
                 "record {} where {} was to be",
                 hex(&self.record),
@@ -260,47 +320,57 @@ impl Drained {
             ));
         }
         let serial = dukpt::with_counter(&self.serial, counter);
-        let library = chizuregwo::host_key(&self.derivation, &serial).map_err(|e| e.to_string())?;
-        let second = dukpt::host_key(&self.derivation, &serial);
-        if second != Ok(library.to_vec()) {
+        let library = self.host_key(&serial)?;
+        let second = dukpt::host_key::<K>(&self.derivation, &serial);
+        if second != Ok(library.as_ref().to_vec()) {
             return Err(format!(
                 "host key {} where the second has {second:02X?}",
-                hex(&library)
+                hex(library.as_ref())
             ));
         }
         Ok(())
     }
 }
 
-/// Loads a terminal and calls for so many keys: each must have the next permitted counter and be the library's host key;
-/// one in `sample` is compared with the second implementation's host key, and the record with its description, and some
-/// counters by the registers that they lie under; all counters before the first key and after the last. After the last of
-/// all keys three more calls must be refused with 12 and change nothing. Gives how many keys were sampled, and how many
-/// counters.
-pub fn drain(random: &mut Random, keys: usize, sample: usize) -> Result<(usize, usize), String> {
-    let mut terminal = Drained::loaded(random).map_err(|e| format!("loading: {e}"))?;
-    let (derivation, serial) = (hex(&terminal.derivation), hex(&terminal.serial));
-    let failed = |when: &str, difference: String| {
-        format!("drain, derivation key {derivation} serial number {serial} {when}: {difference}")
-    };
-    let loaded = terminal.reach(counters(1, 1));
-    let mut reached = loaded.map_err(|difference| failed("loaded", difference))?;
-    for (n, counter) in counters(1, 1).take(keys).enumerate() {
-        let at = |difference| failed(&format!("counter {counter:X}"), difference);
-        if n % sample == 0 {
-            terminal.sample(counter).map_err(at)?;
-            let some = counters(1 + n / sample % sample, sample);
-            reached += terminal.reach(some).map_err(at)?;
+impl<K: Key> Device<K> {
+    /// Loads a terminal and calls for so many keys: each must have the next permitted counter and be the library's host key;
+    /// one in `sample` is compared with the second implementation's host key, and the record with its description, and some
+    /// counters by the registers that they lie under; all counters before the first key and after the last. After the last
+    /// of all keys three more calls must be refused with 12 and change nothing. Gives how many keys were sampled, and how
+    /// many counters.
+    pub fn drain(
+        &self,
+        random: &mut Random,
+        keys: usize,
+        sample: usize,
+    ) -> Result<(usize, usize), String> {
+        let mut terminal = Drained::loaded(self, random)
+            .map_err(|e| format!("{} drain, loading: {e}", self.length))?;
+        let (derivation, serial) = (hex(&terminal.derivation), hex(&terminal.serial));
+        let failed = |when: &str, difference: String| {
+            let length = self.length;
+            format!("{length} drain, derivation key {derivation} serial number {serial} {when}: {difference}")
+        };
+        let loaded = terminal.reach(counters(1, 1));
+        let mut reached = loaded.map_err(|difference| failed("loaded", difference))?;
+        for (n, counter) in counters(1, 1).take(keys).enumerate() {
+            let at = |difference| failed(&format!("counter {counter:X}"), difference);
+            if n % sample == 0 {
+                terminal.sample(counter).map_err(at)?;
+                let some = counters(1 + n / sample % sample, sample);
+                reached += terminal.reach(some).map_err(at)?;
+            }
+            terminal.call(counter).map_err(at)?;
         }
-        terminal.call(counter).map_err(at)?;
-    }
-    let drained = terminal.reach(counters(1, 1));
-    reached += drained.map_err(|difference| failed("drained", difference))?;
-    for _ in 0..if keys == ALL_KEYS { 3 } else { 0 } {
-        let number = compare_call(random, &terminal.record, 8, 10)?;
-        if number != EXHAUSTED {
-            return Err(format!("drain: after the last key the number is {number}"));
+        let drained = terminal.reach(counters(1, 1));
+        reached += drained.map_err(|difference| failed("drained", difference))?;
+        for _ in 0..if keys == ALL_KEYS { 3 } else { 0 } {
+            let number = self.compare_call(random, &terminal.record, K::SIZE, 10)?;
+            if number != EXHAUSTED {
+                let answered = format!("the number is {number}");
+                return Err(failed("after the last key", answered));
+            }
         }
+        Ok((keys.div_ceil(sample), reached))
     }
-    Ok((keys.div_ceil(sample), reached))
 }

@@ -1,7 +1,7 @@
 //! Bytes, digits and hexadecimal text.
 
-/// Exclusive-or of two strings of eight bytes.
-pub fn xor(a: [u8; 8], b: [u8; 8]) -> [u8; 8] {
+/// Exclusive-or of two strings of bytes.
+pub fn xor<const N: usize>(a: [u8; N], b: [u8; N]) -> [u8; N] {
     std::array::from_fn(|i| a[i] ^ b[i])
 }
 
@@ -10,9 +10,10 @@ pub fn turned(block: [u8; 8]) -> [u8; 8] {
     block.map(|byte| 0xFF - byte)
 }
 
-/// A slice as an array; its length is known to be `N`.
-pub fn array<const N: usize>(bytes: &[u8]) -> [u8; N] {
-    bytes.try_into().expect("the length was checked before")
+/// A slice as an array; its length is known to be the array's.
+pub fn array<A: for<'a> TryFrom<&'a [u8]>>(bytes: &[u8]) -> A {
+    let array = A::try_from(bytes).ok();
+    array.expect("the length was checked before")
 }
 
 /// Left 8 bytes of a 16-byte key.

@@ -1,24 +1,24 @@
-//! DUKPT on the host and in the terminal, single length (01, terminal keys;
-//! 002).
+//! DUKPT on the host and in the terminal (01, terminal keys; 002), single and
+//! double length (02, M-105).
 
-use crate::bytes::{array, xor};
-use crate::des::{encrypt, triple_encrypt};
+mod keys;
+
+use crate::bytes::array;
 use crate::numbers::{
     require, Answer, BAD_COUNTER, BAD_RECORD, EQUAL_HALVES, EXHAUSTED, SHORT_BUFFER, SIZE,
 };
+pub use keys::{Double, Key, Single};
 
 /// Number of registers and of counter bits.
 pub const REGISTERS: usize = 21;
 /// Largest number that the 21 counter bits hold.
 const LARGEST_COUNTER: u32 = 0x1F_FFFF;
-/// Length of a record's byte form.
-pub const RECORD_BYTES: usize = 187;
 
 /// The terminal's state.
 #[derive(Clone, Debug, PartialEq, Eq)]
-pub struct Record {
+pub struct Record<K> {
     /// Registers 0 to 20; register b belongs to the bit worth 2 to the power b.
-    pub keys: [[u8; 8]; REGISTERS],
+    pub keys: [K; REGISTERS],
     /// Which registers are filled: bit b for register b.
     pub filled: u32,
     /// Serial number with its counter bits cleared.
@@ -29,15 +29,20 @@ pub struct Record {
     pub exhausted: bool,
 }
 
+impl<K: Key> Record<K> {
+    /// Length of the byte form: 187 or 355.
+    pub const BYTES: usize = REGISTERS * K::SIZE + 19;
+}
+
 /// What a terminal's call for its next key gives.
 #[derive(Clone, Debug, PartialEq, Eq)]
-pub struct NextKey {
+pub struct NextKey<K> {
     /// The key given out.
-    pub key: [u8; 8],
+    pub key: K,
     /// Serial number with the counter of that key in it.
     pub serial: [u8; 10],
     /// The state after the call.
-    pub record: Record,
+    pub record: Record<K>,
 }
 
 /// Whether bit b of a counter or mask is 1.
@@ -90,29 +95,18 @@ fn data(serial: &[u8; 10], counter: u32) -> [u8; 8] {
     array(&with_counter(serial, counter)[2..])
 }
 
-/// One-way step: data exclusive-or key, encrypted under the key, exclusive-or
-/// key again (002, Tb, Tc and the new Ka). All bits of the key take part.
-fn one_way(data: [u8; 8], key: [u8; 8]) -> [u8; 8] {
-    xor(encrypt(&key, &xor(data, key)), key)
-}
-
 /// Register key of a counter: from the initial key and the cleared data, a step
 /// for each one bit, highest first, which is set in the data.
-pub fn register_key(initial: [u8; 8], serial: &[u8; 10], counter: u32) -> [u8; 8] {
+pub fn register_key<K: Key>(initial: K, serial: &[u8; 10], counter: u32) -> K {
     let mut key = initial;
     let mut set = 0;
     for b in (0..REGISTERS).rev() {
         if bit(counter, b) {
             set += 1 << b;
-            key = one_way(data(serial, set), key);
+            key = key.one_way(data(serial, set));
         }
     }
     key
-}
-
-/// The key given out: FF exclusive-or'd into the last byte.
-fn given_out(register_key: [u8; 8]) -> [u8; 8] {
-    xor(register_key, [0, 0, 0, 0, 0, 0, 0, 0xFF])
 }
 
 /// Whether the two halves of a key agree in each byte without its low bit.
@@ -129,25 +123,27 @@ fn host_inputs(derivation: &[u8], serial: &[u8]) -> Result<([u8; 16], [u8; 10]),
     Ok((derivation, array(serial)))
 }
 
-/// Triple DES of the serial number's first 8 bytes, low five bits cleared.
-fn initial_of(derivation: &[u8; 16], serial: &[u8; 10]) -> [u8; 8] {
+/// From the serial number's first 8 bytes, low five bits cleared.
+fn initial_of<K: Key>(derivation: &[u8; 16], serial: &[u8; 10]) -> K {
     let cleared = with_counter(serial, 0);
-    triple_encrypt(derivation, &array(&cleared[..8]))
+    K::initial(derivation, &array(&cleared[..8]))
 }
 
 /// Initial key of a serial number, whatever its counter: 6, 9.
-pub fn initial_key(derivation: &[u8], serial: &[u8]) -> Answer {
+pub fn initial_key<K: Key>(derivation: &[u8], serial: &[u8]) -> Answer {
     let (derivation, serial) = host_inputs(derivation, serial)?;
-    Ok(initial_of(&derivation, &serial).to_vec())
+    let initial: K = initial_of(&derivation, &serial);
+    Ok(initial.as_ref().to_vec())
 }
 
 /// The host's key for a serial number with its counter: 6, 9, 10.
-pub fn host_key(derivation: &[u8], serial: &[u8]) -> Answer {
+pub fn host_key<K: Key>(derivation: &[u8], serial: &[u8]) -> Answer {
     let (derivation, serial) = host_inputs(derivation, serial)?;
     let counter = counter_of(&serial);
     require(permitted(counter), BAD_COUNTER)?;
-    let initial = initial_of(&derivation, &serial);
-    Ok(given_out(register_key(initial, &serial, counter)).to_vec())
+    let initial: K = initial_of(&derivation, &serial);
+    let key = register_key(initial, &serial, counter).given_out();
+    Ok(key.as_ref().to_vec())
 }
 
 /// Whether register b is filled when the counter is next: b is its lowest one
@@ -165,7 +161,7 @@ fn filled_mask(counter: u32) -> u32 {
 
 /// Exhausted: all registers empty and the counter 0. Otherwise a permitted
 /// counter with its registers filled and no others.
-fn counter_and_mask_agree(record: &Record) -> bool {
+fn counter_and_mask_agree<K>(record: &Record<K>) -> bool {
     if record.exhausted {
         record.counter == 0 && record.filled == 0
     } else {
@@ -175,15 +171,15 @@ fn counter_and_mask_agree(record: &Record) -> bool {
 
 /// Whether a record hangs together. Only the bytes in a filled register are not
 /// looked at.
-pub fn hangs_together(record: &Record) -> bool {
+pub fn hangs_together<K: Key>(record: &Record<K>) -> bool {
     let empty = (0..REGISTERS).filter(|b| !bit(record.filled, *b));
-    let empty_are_zero = empty.map(|b| record.keys[b]).all(|key| key == [0; 8]);
+    let empty_are_zero = empty.map(|b| record.keys[b]).all(|key| key == K::ZERO);
     let serial_is_cleared = counter_of(&record.serial) == 0;
     counter_and_mask_agree(record) && empty_are_zero && serial_is_cleared
 }
 
 /// The labels of a record's filled registers, lowest register first.
-pub fn labels(record: &Record) -> Vec<u32> {
+pub fn labels<K>(record: &Record<K>) -> Vec<u32> {
     let filled = (0..REGISTERS).filter(|b| bit(record.filled, *b));
     filled.map(|b| label(record.counter, b)).collect()
 }
@@ -197,8 +193,8 @@ pub fn lies_under(counter: u32, label: u32) -> bool {
 
 /// Loading: the counter bits of the serial number are cleared and counter 1 is
 /// next; register b holds the register key of bit b alone: 6.
-pub fn terminal_load(initial: &[u8], serial: &[u8]) -> Result<Record, u8> {
-    require(initial.len() == 8, SIZE)?;
+pub fn terminal_load<K: Key>(initial: &[u8], serial: &[u8]) -> Result<Record<K>, u8> {
+    require(initial.len() == K::SIZE, SIZE)?;
     require(serial.len() == 10, SIZE)?;
     let serial = with_counter(&array(serial), 0);
     Ok(Record {
@@ -211,9 +207,9 @@ pub fn terminal_load(initial: &[u8], serial: &[u8]) -> Result<Record, u8> {
 }
 
 /// Past the last counter: all registers empty and the counter 0.
-fn exhausted(serial: [u8; 10]) -> Record {
+fn exhausted<K: Key>(serial: [u8; 10]) -> Record<K> {
     Record {
-        keys: [[0; 8]; REGISTERS],
+        keys: [K::ZERO; REGISTERS],
         filled: 0,
         serial,
         counter: 0,
@@ -224,21 +220,21 @@ fn exhausted(serial: [u8; 10]) -> Record {
 /// What register b holds when `next` is next. Above l it holds it already. Below
 /// l the bits of `next` above b are the counter given out, so its key is one
 /// step from the register key just used.
-fn new_register(record: &Record, next: u32, b: usize) -> [u8; 8] {
+fn new_register<K: Key>(record: &Record<K>, next: u32, b: usize) -> K {
     let l = lowest(record.counter);
     if !is_filled(next, b) {
-        [0; 8]
+        K::ZERO
     } else if b > l {
         record.keys[b]
     } else {
         let counter = label(next, b);
         assert_eq!(counter, record.counter + (1 << b));
-        one_way(data(&record.serial, counter), record.keys[l])
+        record.keys[l].one_way(data(&record.serial, counter))
     }
 }
 
 /// The record after its counter was given out.
-fn following(record: &Record) -> Record {
+fn following<K: Key>(record: &Record<K>) -> Record<K> {
     let Some(next) = next_counter(record.counter) else {
         return exhausted(record.serial);
     };
@@ -253,20 +249,23 @@ fn following(record: &Record) -> Record {
 
 /// The terminal's next key, from the register of the counter's lowest one bit:
 /// 11, 12, 13.
-pub fn terminal_next_key(record: &Record, room: usize) -> Result<NextKey, u8> {
+pub fn terminal_next_key<K: Key>(record: &Record<K>, room: usize) -> Result<NextKey<K>, u8> {
     require(hangs_together(record), BAD_RECORD)?;
     require(!record.exhausted, EXHAUSTED)?;
-    require(room >= 8, SHORT_BUFFER)?;
+    require(room >= K::SIZE, SHORT_BUFFER)?;
     Ok(NextKey {
-        key: given_out(record.keys[lowest(record.counter)]),
+        key: record.keys[lowest(record.counter)].given_out(),
         serial: with_counter(&record.serial, record.counter),
         record: following(record),
     })
 }
 
 /// Byte form: registers 0 to 20, filled mask, serial number, counter, exhausted.
-pub fn to_bytes(record: &Record) -> Vec<u8> {
-    let mut bytes = record.keys.concat();
+pub fn to_bytes<K: Key>(record: &Record<K>) -> Vec<u8> {
+    let mut bytes = Vec::new();
+    for key in &record.keys {
+        bytes.extend(key.as_ref());
+    }
     bytes.extend(record.filled.to_be_bytes());
     bytes.extend(record.serial);
     bytes.extend(record.counter.to_be_bytes());
@@ -275,15 +274,16 @@ pub fn to_bytes(record: &Record) -> Vec<u8> {
 }
 
 /// The record of a byte form: another length is 6, no valid record is 11.
-pub fn from_bytes(bytes: &[u8]) -> Result<Record, u8> {
-    require(bytes.len() == RECORD_BYTES, SIZE)?;
-    require(bytes[186] <= 1, BAD_RECORD)?;
+pub fn from_bytes<K: Key>(bytes: &[u8]) -> Result<Record<K>, u8> {
+    require(bytes.len() == Record::<K>::BYTES, SIZE)?;
+    let (keys, rest) = bytes.split_at(REGISTERS * K::SIZE);
+    require(rest[18] <= 1, BAD_RECORD)?;
     let record = Record {
-        keys: std::array::from_fn(|b| array(&bytes[8 * b..8 * b + 8])),
-        filled: u32::from_be_bytes(array(&bytes[168..172])),
-        serial: array(&bytes[172..182]),
-        counter: u32::from_be_bytes(array(&bytes[182..186])),
-        exhausted: bytes[186] == 1,
+        keys: std::array::from_fn(|b| array(&keys[K::SIZE * b..][..K::SIZE])),
+        filled: u32::from_be_bytes(array(&rest[..4])),
+        serial: array(&rest[4..14]),
+        counter: u32::from_be_bytes(array(&rest[14..18])),
+        exhausted: rest[18] == 1,
     };
     require(hangs_together(&record), BAD_RECORD)?;
     Ok(record)

@@ -4,7 +4,7 @@
 
 use crate::bytes::array;
 use crate::des;
-use crate::dukpt::{self, from_bytes, to_bytes, NextKey};
+use crate::dukpt::{self, from_bytes, to_bytes, Key, NextKey};
 use crate::numbers::{require, Answer, SHORT_BUFFER, SIZE};
 
 /// DES or triple DES by the key's size: 6.
@@ -35,17 +35,17 @@ pub fn decrypt(key: &[u8], block: &[u8]) -> Answer {
 }
 
 /// The record's bytes of a terminal that is loaded: 6.
-pub fn terminal_load(initial: &[u8], serial: &[u8]) -> Answer {
-    dukpt::terminal_load(initial, serial).map(|record| to_bytes(&record))
+pub fn terminal_load<K: Key>(initial: &[u8], serial: &[u8]) -> Answer {
+    dukpt::terminal_load::<K>(initial, serial).map(|record| to_bytes(&record))
 }
 
 /// The next key of a record's bytes, with buffers of so much room for the key
 /// and for the serial number: 6, 11, 12, 13.
-pub fn terminal_next_key(
+pub fn terminal_next_key<K: Key>(
     record: &[u8],
     key_room: usize,
     serial_room: usize,
-) -> Result<NextKey, u8> {
+) -> Result<NextKey<K>, u8> {
     let record = from_bytes(record)?;
     let next = dukpt::terminal_next_key(&record, key_room)?;
     require(serial_room >= next.serial.len(), SHORT_BUFFER)?;

@@ -12,6 +12,9 @@ use std::io::BufRead;
 /// The largest room, and the one that is lent where a request names none.
 const MOST_ROOM: usize = 1024;
 
+/// The requests for a terminal's next key: they may name two rooms.
+const NEXT_KEYS: [&[u8]; 2] = [b"terminal-next-key", b"double-terminal-next-key"];
+
 /// The room that is lent.
 #[derive(Clone, Copy, Debug, PartialEq, Eq)]
 pub struct Rooms {
@@ -70,7 +73,7 @@ fn rooms(name: &[u8], named: Option<&[u8]>) -> Result<Rooms, String> {
         Some((result, serial)) => (Some(result), serial),
         None => (None, None),
     };
-    if serial.is_some() && name != b"terminal-next-key" {
+    if serial.is_some() && !NEXT_KEYS.contains(&name) {
         return Err("two rooms".to_string());
     }
     if named.is_some() && name == b"self-test" {

@@ -1,7 +1,7 @@
 //! Computes the answer of each request from its inputs alone.
 
 use crate::cleaning::{Counted, CountedAnswer};
-use crate::dukpt::{to_bytes, NextKey};
+use crate::dukpt::{to_bytes, Double, Key, NextKey, Single};
 use crate::lines::{answer_line, bytes_value, requests, self_test_line, text_value};
 use crate::lines::{Inputs, Request, Rooms};
 use crate::numbers::{lend, Answer};
@@ -46,17 +46,17 @@ fn counted(
 }
 
 /// The line of key, serial number and the record after the call.
-fn next_key(answer: Result<NextKey, u8>) -> Result<String, String> {
-    let values = |next: NextKey| {
+fn next_key<K: Key>(answer: Result<NextKey<K>, u8>) -> Result<String, String> {
+    let values = |next: NextKey<K>| {
         let record = to_bytes(&next.record);
-        [&next.key[..], &next.serial, &record].map(bytes_value)
+        [next.key.as_ref(), &next.serial, &record].map(bytes_value)
     };
     Ok(answer_line(&answer.map(values).map(Vec::from)))
 }
 
 /// Every request, by its name.
 #[rustfmt::skip]
-const REQUESTS: [(&str, Compute); 31] = [
+const REQUESTS: [(&str, Compute); 35] = [
     ("meaning", |i, r| text(numbers::meaning(i.number()?), r)),
 
     ("encrypt", |i, r| bytes(entries::encrypt(&i.bytes()?, &i.bytes()?), r)),
@@ -98,10 +98,18 @@ const REQUESTS: [(&str, Compute); 31] = [
     ("arqc", |i, r| bytes(card::arqc(&i.bytes()?, &i.bytes()?), r)),
     ("arpc", |i, r| bytes(card::arpc(&i.bytes()?, &i.bytes()?, &i.bytes()?), r)),
 
-    ("initial-key", |i, r| bytes(dukpt::initial_key(&i.bytes()?, &i.bytes()?), r)),
-    ("host-key", |i, r| bytes(dukpt::host_key(&i.bytes()?, &i.bytes()?), r)),
-    ("terminal-load", |i, r| bytes(entries::terminal_load(&i.bytes()?, &i.bytes()?), r)),
-    ("terminal-next-key", |i, r| next_key(entries::terminal_next_key(&i.bytes()?, r.result, r.serial))),
+    ("initial-key", |i, r| bytes(dukpt::initial_key::<Single>(&i.bytes()?, &i.bytes()?), r)),
+    ("host-key", |i, r| bytes(dukpt::host_key::<Single>(&i.bytes()?, &i.bytes()?), r)),
+    ("terminal-load", |i, r| bytes(entries::terminal_load::<Single>(&i.bytes()?, &i.bytes()?), r)),
+    ("terminal-next-key", |i, r| {
+        next_key(entries::terminal_next_key::<Single>(&i.bytes()?, r.result, r.serial))
+    }),
+    ("double-initial-key", |i, r| bytes(dukpt::initial_key::<Double>(&i.bytes()?, &i.bytes()?), r)),
+    ("double-host-key", |i, r| bytes(dukpt::host_key::<Double>(&i.bytes()?, &i.bytes()?), r)),
+    ("double-terminal-load", |i, r| bytes(entries::terminal_load::<Double>(&i.bytes()?, &i.bytes()?), r)),
+    ("double-terminal-next-key", |i, r| {
+        next_key(entries::terminal_next_key::<Double>(&i.bytes()?, r.result, r.serial))
+    }),
 
     ("self-test", |_, _| Ok(self_test_line(self_test::self_test()))),
 ];

@@ -4,7 +4,7 @@ mod common;
 
 use common::{hex, SUBSTITUTION};
 use second::bytes::hex as shown;
-use second::dukpt::{terminal_load, terminal_next_key, to_bytes};
+use second::dukpt::{terminal_load, terminal_next_key, to_bytes, Double, Key, Record, Single};
 use second::lines::self_test_line;
 use second::recompute::answer;
 use std::io::Write;
@@ -109,6 +109,14 @@ host-key/002 51525457585B5D5E61626467686B6D6E 0123456789ABCDF00001 = done 670B39
 host-key/zero 51525457585B5D5E61626467686B6D6E 0123456789ABCDE00000 = refused 10
 terminal-load/size - - = refused 6
 terminal-next-key/size - = refused 6
+double-initial-key/ansi 0123456789ABCDEFFEDCBA9876543210 FFFF9876543210E00000 = done 6AC292FAA1315B4D858AB3A3D7D5933A
+double-initial-key@15/room 0123456789ABCDEFFEDCBA9876543210 FFFF9876543210E00000 = refused 13
+double-initial-key/halves 0123456789ABCDEF0022446688AACCEE FFFF9876543210E00000 = refused 9
+double-host-key/ansi 0123456789ABCDEFFEDCBA9876543210 FFFF9876543210E00001 = done 042666B49184CF5C68DE9628D0397B36
+double-host-key/zero 0123456789ABCDEFFEDCBA9876543210 FFFF9876543210E00000 = refused 10
+double-terminal-load/size 6AC292FAA1315B4D FFFF9876543210E00000 = refused 6
+double-terminal-next-key/size - = refused 6
+encrypt/ansi-pin-block 042666B49184CF5C68DE9628D0397B36 041274EDCBA9876F = done 1B9C1845EB993A7A
 self-test = done
 self-test/label = done
 ";
@@ -135,35 +143,46 @@ fn every_name() {
     }
 }
 
+/// The terminal's requests of one kind: what stands before their names, an
+/// initial key, and the rooms of the key.
+fn check_terminal<K: Key>(kind: &str, initial: &str, enough: [&str; 6], short: [&str; 4]) {
+    let serial = "0123456789ABCDF00001";
+    let loaded = terminal_load::<K>(&hex(initial), &hex(serial)).unwrap();
+    let next = terminal_next_key(&loaded, K::SIZE).unwrap();
+    let record = shown(&to_bytes(&loaded));
+    let asked = |request: &str| answer(format!("{kind}{request}").as_bytes()).unwrap();
+    let load = |room: &str| asked(&format!("terminal-load{room}/label {initial} {serial}"));
+    let size = Record::<K>::BYTES;
+    assert_eq!(load(""), format!("done {record}"));
+    assert_eq!(load(&format!("@{size}")), format!("done {record}"));
+    assert_eq!(load(&format!("@{}", size - 1)), "refused 13");
+    let call = |rooms: &str| asked(&format!("terminal-next-key{rooms} {record}"));
+    let (key, serial) = (shown(next.key.as_ref()), shown(&next.serial));
+    let given = format!("done {key} {serial} {}", shown(&to_bytes(&next.record)));
+    for rooms in enough {
+        assert_eq!(call(rooms), given, "{rooms}");
+    }
+    for rooms in short {
+        assert_eq!(call(rooms), "refused 13", "{rooms}");
+    }
+    let zeros = "00".repeat(size);
+    assert_eq!(asked(&format!("terminal-next-key@0 {zeros}")), "refused 11");
+}
+
 #[test]
 fn terminal_requests() {
-    let loaded = terminal_load(&hex("21EE7C08DBE820AB"), &hex("0123456789ABCDF00001")).unwrap();
-    let next = terminal_next_key(&loaded, 8).unwrap();
-    let record = shown(&to_bytes(&loaded));
-    let asked = |request: &str| answer(request.as_bytes()).unwrap();
-    let load = "/002 21EE7C08DBE820AB 0123456789ABCDF00001";
-    assert_eq!(
-        asked(&format!("terminal-load{load}")),
-        format!("done {record}")
+    check_terminal::<Single>(
+        "",
+        "21EE7C08DBE820AB",
+        ["", "@8", "@8,10", "@1024,1024", "/label", "@9/label"],
+        ["@7", "@0,10", "@8,9", "@8,0/label"],
     );
-    assert_eq!(
-        asked(&format!("terminal-load@187{load}")),
-        format!("done {record}")
+    check_terminal::<Double>(
+        "double-",
+        "6AC292FAA1315B4D858AB3A3D7D5933A",
+        ["", "@16", "@16,10", "@1024,1024", "/label", "@17/label"],
+        ["@15", "@8,10", "@16,9", "@16,0/label"],
     );
-    assert_eq!(asked(&format!("terminal-load@186{load}")), "refused 13");
-    let (key, serial) = (shown(&next.key), shown(&next.serial));
-    let given = format!("done {key} {serial} {}", shown(&to_bytes(&next.record)));
-    for rooms in ["", "@8", "@8,10", "@1024,1024", "/label", "@9/label"] {
-        assert_eq!(asked(&format!("terminal-next-key{rooms} {record}")), given);
-    }
-    for rooms in ["@7", "@0,10", "@8,9", "@8,0/label"] {
-        assert_eq!(
-            asked(&format!("terminal-next-key{rooms} {record}")),
-            "refused 13"
-        );
-    }
-    let zeros = "00".repeat(187);
-    assert_eq!(asked(&format!("terminal-next-key@0 {zeros}")), "refused 11");
 }
 
 #[test]
@@ -214,6 +233,14 @@ fn wrong_lines() {
         "terminal-next-key@8,/x 00",
         "terminal-next-key@8,1025/x 00",
         "terminal-next-key@8,10,10/x 00",
+        "terminal-load@8,10/x 00 00",
+        "double-terminal-next-key@16,/x 00",
+        "double-terminal-next-key@16,10,10/x 00",
+        "double-terminal-next-key/x 00 00",
+        "double-terminal-load@355,10/x 00 00",
+        "double-host-key/x 00",
+        "double-encrypt/x 00 00",
+        "double/x 00 00",
         "self-test ",
         "self-test/x x",
         "self-test@8",

@@ -4,7 +4,7 @@ mod common;
 
 use common::{counted, described, field, hex, message, sized};
 use second::cleaning::{clean, cleaned};
-use second::dukpt::{next_counter, terminal_next_key};
+use second::dukpt::{next_counter, terminal_next_key, Double, Key, Single};
 use second::key_entry::key_entry;
 use second::mac::{message_mac, text_mac};
 use second::message::message_text;
@@ -98,12 +98,19 @@ fn n_to_p_counters() {
     assert_eq!(next_counter(0x3FF), Some(0x400));
     assert_eq!(next_counter(0x7FE), Some(0x800));
     assert_eq!(next_counter(0x1F_F800), None);
-    let initial = sized("21EE7C08DBE820AB");
+    n_to_p_terminal::<Single>(sized("21EE7C08DBE820AB"));
+    n_to_p_terminal::<Double>(sized("6AC292FAA1315B4D858AB3A3D7D5933A"));
+}
+
+fn n_to_p_terminal<K: Key>(initial: K) {
     let serial = sized("0123456789ABCDE00000");
-    let after = |counter| terminal_next_key(&described(initial, &serial, counter), 8);
-    assert_eq!(after(0x3FF).unwrap().record.counter, 0x400);
-    assert_eq!(after(0x7FE).unwrap().record.counter, 0x800);
-    assert!(after(0x1F_F800).unwrap().record.exhausted);
+    let after = |counter| {
+        let record = described(initial, &serial, counter);
+        terminal_next_key(&record, K::SIZE).unwrap().record
+    };
+    assert_eq!(after(0x3FF).counter, 0x400);
+    assert_eq!(after(0x7FE).counter, 0x800);
+    assert!(after(0x1F_F800).exhausted);
 }
 
 #[test]

@@ -1,9 +1,11 @@
-//! Published values: FIPS and NBS, and documents 000 to 004.
+//! Published values: FIPS, NBS and ANSI, and documents 000 to 004.
 
 mod common;
 
-use common::{hex, sized, DERIVATION, SERIAL, SUBSTITUTION};
+use common::{hex, sized, ANSI_DERIVATION, ANSI_SERIAL, DERIVATION, SERIAL, SUBSTITUTION};
+use second::bytes::xor;
 use second::des::{decrypt, encrypt, entries_read, triple_decrypt, triple_encrypt, ENTRIES};
+use second::dukpt::{Double, Single};
 use second::{card, dukpt, password, pin, vip};
 use std::collections::BTreeSet;
 
@@ -153,13 +155,13 @@ fn document_002_initial_key() {
     let cc = decrypt(&sized(&DERIVATION[20..]), &cb);
     assert_eq!(cb.to_vec(), hex("6497 E2F4 C59D 952E"));
     assert_eq!(cc.to_vec(), hex("0163 CE85 359F F599"));
-    let initial = dukpt::initial_key(&derivation, &serial);
+    let initial = dukpt::initial_key::<Single>(&derivation, &serial);
     assert_eq!(initial, Ok(hex("21EE 7C08 DBE8 20AB")));
 }
 
 #[test]
 fn document_002_current_key() {
-    let initial = sized("21EE 7C08 DBE8 20AB");
+    let initial: Single = sized("21EE 7C08 DBE8 20AB");
     let serial = sized(SERIAL);
     let tc1 = encrypt(&initial, &sized("6489 F5A3 1618 20AB"));
     assert_eq!(tc1.to_vec(), hex("F9AC C638 1939 44BC"));
@@ -169,8 +171,72 @@ fn document_002_current_key() {
     assert_eq!(tc20.to_vec(), hex("BF49 836E AE2A 042A"));
     let last = dukpt::register_key(initial, &serial, 0x10_0001);
     assert_eq!(last.to_vec(), hex("670B 395E 6CFB 603D"));
-    let key = dukpt::host_key(&hex(DERIVATION), &serial);
+    let key = dukpt::host_key::<Single>(&hex(DERIVATION), &serial);
     assert_eq!(key, Ok(hex("670B 395E 6CFB 60C2")));
+}
+
+#[test]
+fn ansi_double_length_keys() {
+    let (derivation, serial) = (hex(ANSI_DERIVATION), sized(ANSI_SERIAL));
+    let initial: Double = sized("6AC292FAA1315B4D 858AB3A3D7D5933A");
+    let computed = dukpt::initial_key::<Double>(&derivation, &serial);
+    assert_eq!(computed, Ok(initial.to_vec()));
+    // The left half is the initial key of single length.
+    let single = dukpt::initial_key::<Single>(&derivation, &serial);
+    assert_eq!(single, Ok(initial[..8].to_vec()));
+    let register_key = dukpt::register_key(initial, &serial, 1);
+    assert_eq!(register_key, sized("042666B49184CFA3 68DE9628D0397BC9"));
+    let key = dukpt::host_key::<Double>(&derivation, &dukpt::with_counter(&serial, 1));
+    assert_eq!(key, Ok(hex("042666B49184CF5C 68DE9628D0397B36")));
+}
+
+/// The step of counter 1 by hand: the data are 9876543210E00001, and the mask is
+/// C0C0C0C000000000.
+#[test]
+fn ansi_double_length_step() {
+    let masked = encrypt(&sized("AA02523AA1315B4D"), &sized("DD3C2751C735933B"));
+    let left = xor(masked, sized("454A7363D7D5933A"));
+    assert_eq!(left, sized("042666B49184CFA3"));
+    let unmasked = encrypt(&sized("6AC292FAA1315B4D"), &sized("1DFCE791C735933B"));
+    let right = xor(unmasked, sized("858AB3A3D7D5933A"));
+    assert_eq!(right, sized("68DE9628D0397BC9"));
+}
+
+/// The keys of the example's terminal are the host's, from the first on.
+#[test]
+fn ansi_double_length_terminal() {
+    let initial: Double = sized("6AC292FAA1315B4D 858AB3A3D7D5933A");
+    let serial = sized(ANSI_SERIAL);
+    let mut record = dukpt::terminal_load::<Double>(&initial, &serial).unwrap();
+    for counter in 1..=100 {
+        let next = dukpt::terminal_next_key(&record, 16).unwrap();
+        assert_eq!(next.serial, dukpt::with_counter(&serial, counter));
+        let host = dukpt::host_key::<Double>(&hex(ANSI_DERIVATION), &next.serial);
+        assert_eq!(host, Ok(next.key.to_vec()));
+        record = next.record;
+    }
+}
+
+/// The published block is that of paper 01: ISO 9564-1 format 0.
+#[test]
+fn ansi_double_length_pin_blocks() {
+    let (pin, card) = (b"1234", b"4012345678909");
+    let clear = pin::make_with_card(pin, card);
+    assert_eq!(clear, Ok(hex("041274EDCBA9876F")));
+    for (counter, block) in [
+        (1, "1B9C1845EB993A7A"),
+        (2, "10A01C8D02C69107"),
+        (3, "18DC07B94797B466"),
+        (4, "0BC79509D5645DF7"),
+        (5, "5BC0AF22AD87B327"),
+        (6, "A16DF70AE36158D8"),
+        (7, "27711C16CB257F8E"),
+    ] {
+        let serial = dukpt::with_counter(&sized(ANSI_SERIAL), counter);
+        let key = dukpt::host_key::<Double>(&hex(ANSI_DERIVATION), &serial).unwrap();
+        let encrypted = pin::encrypt_with_card(&key, pin, card);
+        assert_eq!(encrypted, Ok(hex(block)), "{counter}");
+    }
 }
 
 #[test]

@@ -4,15 +4,21 @@ mod common;
 
 use common::{counted, field, hex, message};
 use second::cleaning::clean;
+use second::dukpt::{Double, Single};
 use second::key_entry::key_entry;
 use second::mac::{message_mac, text_mac};
 use second::message::message_text;
-use second::numbers::meaning;
+use second::numbers::{meaning, Answer};
 use second::{card, dukpt, pin};
 
 const KEY: &[u8] = &[0x11; 8];
 const DOUBLE: &[u8] = b"0123456789abcdef";
 const CARD: &[u8] = b"4219876543210987";
+
+/// An entry that takes a derivation key and a serial number.
+type Derivation = fn(&[u8], &[u8]) -> Answer;
+const INITIAL_KEYS: [Derivation; 2] = [dukpt::initial_key::<Single>, dukpt::initial_key::<Double>];
+const HOST_KEYS: [Derivation; 2] = [dukpt::host_key::<Single>, dukpt::host_key::<Double>];
 
 #[test]
 fn meaning_6() {
@@ -251,14 +257,17 @@ fn card_6_7() {
 #[test]
 fn equal_halves_are_refused_for_the_derivation_key_alone() {
     let equal = [0x11; 16];
-    assert_eq!(dukpt::initial_key(&equal, &[0; 10]), Err(9));
+    for entry in INITIAL_KEYS {
+        assert_eq!(entry(&equal, &[0; 10]), Err(9));
+    }
     assert!(card::card_key(&equal, CARD, 0).is_ok());
+    assert!(dukpt::terminal_load::<Double>(&equal, &[0; 10]).is_ok());
 }
 
 #[test]
 fn halves_are_compared_without_low_bits() {
     let serial = dukpt::with_counter(&[0; 10], 1);
-    for entry in [dukpt::initial_key, dukpt::host_key] {
+    for entry in [INITIAL_KEYS, HOST_KEYS].concat() {
         for bits in 0..256 {
             let mut low_bits: [u8; 16] = std::array::from_fn(|i| 0x31 + i as u8 % 8);
             (0..8).for_each(|i| low_bits[8 + i] ^= (bits >> i & 1) as u8);
@@ -274,17 +283,32 @@ fn halves_are_compared_without_low_bits() {
 }
 
 #[test]
+fn halves_that_differ_by_the_mask_alone_are_taken() {
+    let serial = dukpt::with_counter(&[0; 10], 1);
+    let key = hex("0123456789ABCDEF C1E385A789ABCDEF");
+    for entry in [INITIAL_KEYS, HOST_KEYS].concat() {
+        assert!(entry(&key, &serial).is_ok());
+    }
+}
+
+#[test]
 fn host_6_9_10() {
     let equal = [0x11; 16];
-    assert_eq!(dukpt::initial_key(&equal, &[0; 9]), Err(6));
-    assert_eq!(dukpt::initial_key(&equal[..15], &[0; 10]), Err(6));
-    assert_eq!(dukpt::host_key(&equal, &[0; 11]), Err(6));
-    assert_eq!(dukpt::host_key(&equal, &[0; 10]), Err(9));
-    assert_eq!(dukpt::host_key(DOUBLE, &[0; 10]), Err(10));
-    let serial = |counter| dukpt::with_counter(&[0xFF; 10], counter);
-    assert_eq!(dukpt::host_key(DOUBLE, &serial(0)), Err(10));
-    assert_eq!(dukpt::host_key(DOUBLE, &serial(0x7FF)), Err(10));
-    assert_eq!(dukpt::host_key(DOUBLE, &serial(0x1F_FFFF)), Err(10));
-    assert!(dukpt::host_key(DOUBLE, &serial(0x7FE)).is_ok());
-    assert!(dukpt::host_key(DOUBLE, &serial(0x1F_F800)).is_ok());
+    for initial_key in INITIAL_KEYS {
+        assert_eq!(initial_key(&equal, &[0; 9]), Err(6));
+        assert_eq!(initial_key(&equal[..15], &[0; 10]), Err(6));
+        assert!(initial_key(DOUBLE, &[0; 10]).is_ok());
+    }
+    for host_key in HOST_KEYS {
+        assert_eq!(host_key(&equal, &[0; 11]), Err(6));
+        assert_eq!(host_key(&equal[..8], &[0; 10]), Err(6));
+        assert_eq!(host_key(&equal, &[0; 10]), Err(9));
+        assert_eq!(host_key(DOUBLE, &[0; 10]), Err(10));
+        let serial = |counter| dukpt::with_counter(&[0xFF; 10], counter);
+        assert_eq!(host_key(DOUBLE, &serial(0)), Err(10));
+        assert_eq!(host_key(DOUBLE, &serial(0x7FF)), Err(10));
+        assert_eq!(host_key(DOUBLE, &serial(0x1F_FFFF)), Err(10));
+        assert!(host_key(DOUBLE, &serial(0x7FE)).is_ok());
+        assert!(host_key(DOUBLE, &serial(0x1F_F800)).is_ok());
+    }
 }

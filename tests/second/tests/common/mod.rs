@@ -2,7 +2,7 @@
 #![allow(dead_code)]
 
 use second::cleaning::{Counted, CountedAnswer};
-use second::dukpt::{register_key, Record};
+use second::dukpt::{register_key, Key, Record};
 use second::lines;
 
 /// Bytes of hexadecimal digits, spaces aside.
@@ -38,9 +38,9 @@ pub fn counted(value: &[u8], dropped: usize, spaces: usize) -> CountedAnswer {
 
 /// The record that paper 01 describes for a next counter, register by register
 /// from the initial key.
-pub fn described(initial: [u8; 8], serial: &[u8; 10], c: u32) -> Record {
+pub fn described<K: Key>(initial: K, serial: &[u8; 10], c: u32) -> Record<K> {
     let l = c.trailing_zeros();
-    let mut keys = [[0; 8]; 21];
+    let mut keys = [K::ZERO; 21];
     let mut filled = 0;
     for b in 0..21u32 {
         if b == l || (b > l && c & (1 << b) == 0) {
@@ -62,6 +62,11 @@ pub fn described(initial: [u8; 8], serial: &[u8; 10], c: u32) -> Record {
 pub const DERIVATION: &str = "5152 5457 585B 5D5E 6162 6467 686B 6D6E";
 /// The serial number of document 002, with counter 100001 hex.
 pub const SERIAL: &str = "0123 4567 89AB CDF0 0001";
+
+/// The derivation key of ANS X9.24-1, A.4.
+pub const ANSI_DERIVATION: &str = "0123456789ABCDEF FEDCBA9876543210";
+/// The serial number of ANS X9.24-1, A.4, with counter 0.
+pub const ANSI_SERIAL: &str = "FFFF 9876543210E00000";
 
 /// NBS Special Publication 500-20, substitution table test: key, block, result.
 pub const SUBSTITUTION: [[&str; 3]; 19] = [

@@ -10,7 +10,7 @@ unfolding cardKey
 returns c =
     let u = c .before .before .before in
     let a = u .before .before .before .args in
-    let r = unadjustedCardKey (a .master .now) (a .card .now) (a .sequence) in
+    let r = unadjustedCardKey (a .master-key .now) (a .card .now) (a .sequence) in
     refused-double-block (c .refused-double-block .ensures) (refuses-then _ (answered-refused 16 r (u .unadjusted-card-key .ensures) (c .before .if1 .taken)))
 
 returns-2 : tie.Need-returns-2
@@ -19,7 +19,7 @@ returns-2 c =
     let b = c .before .before .before .before in
     let u = b .before .before in
     let a = u .before .before .before .args in
-    let r = unadjustedCardKey (a .master .now) (a .card .now) (a .sequence) in
+    let r = unadjustedCardKey (a .master-key .now) (a .card .now) (a .sequence) in
     let e = answered-done 16 r (u .unadjusted-card-key .ensures) (b .if1 .left) in
     record { number = rw e; value = rw e (c .before .adjust .ensures) }
 

@@ -22,8 +22,13 @@ returns-4 c =
 
 returns-5 : tie.Need-returns-5
 returns-5 c =
-    let a = c .before .before .before .before .before .before .before .before .before .before .before .before .before .args in
-    after-texts (answerAt (a .place) (a .a .now) (a .b .now) (a .c .now) (a .x)) (a .a .now) (a .b .now) (c .counted4 .ensures) (c .before .before .before .key-entry .ensures) (a .place) (c .before .before .before .before .before .before .before .if2 .left)
+    let a = c .before .before .before .before .before .before .before .before .before .before .before .before .before .before .args in
+    after-texts (answerAt (a .place) (a .a .now) (a .b .now) (a .c .now) (a .x)) (a .a .now) (a .b .now) (c .counted4 .ensures) (c .before .before .before .card-entry .ensures) (a .place) (c .before .before .before .before .before .before .before .before .if2 .left)
+
+returns-6 : tie.Need-returns-6
+returns-6 c =
+    let a = c .before .before .before .before .before .before .before .before .before .before .before .before .before .before .args in
+    after-texts (answerAt (a .place) (a .a .now) (a .b .now) (a .c .now) (a .x)) (a .a .now) (a .b .now) (c .counted5 .ensures) (c .before .before .before .terminal-entry .ensures) (a .place) (c .before .before .before .before .before .before .before .before .if2 .left)
 
 pub call-spec : {M : Type 1} → statement M
 call-spec =
@@ -31,4 +36,4 @@ call-spec =
     (tie.spec (λ c κs. search needs) (λ c κs. search needs) (λ c. search needs) returns (λ c κs. search needs)
     (λ c. search needs) (λ c. search needs) (λ c κs. search needs) (λ c κs. search needs) (λ c. search needs) returns-3
     (λ c κs. search needs) (λ c κs. search needs) (λ c. search needs) returns-4 (λ c κs. search needs) (λ c κs. search needs)
-    (λ c. search needs) returns-5)
+    (λ c. search needs) returns-5 (λ c κs. search needs) (λ c κs. search needs) (λ c. search needs) returns-6)

@@ -6,7 +6,7 @@ use Rattle.host.proofs.derivation.one_way.Tie as tie
 
 returns : tie.Need-returns
 unfolding oneWay
-returns c = rw (c .encrypt .ensures)
+returns c = c .step .ensures
 
 pub one-way-spec : {M : Type 1} → statement M
 one-way-spec = tie.close (tie.spec (λ c κs. search needs) returns)

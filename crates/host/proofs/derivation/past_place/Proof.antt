@@ -1,27 +1,23 @@
 -- `host::derivation::past_place` meets its contract: the shifts out and back leave the bits of the counter from its place up.
 use borrow.Author.Needs.{needs}
 use borrow.Author.Tests.{eq-eqb, ne-eqb}
-use mathlib.Core.Path.{_≡_, ap, _∙_}
-use Prim.Native.Nat.{ℕ, _+_, _*_, _/_, _%_, _^_, _<_}
-use native.Mathlib.Nat.{div-mul-le-self, mod-eq-of-lt}
+use mathlib.Core.Path.{ap, _∙_}
+use Prim.Native.Nat.{ℕ, _+_}
 use native.Mathlib.Omega.{arith}
 use Rattle.registers.specs.Counters.{bit}
+use Rattle.registers.proofs.Laws.{bits-moved}
 use Rattle.host.specs.SingleLength.{oneWay}
 use Rattle.host.proofs.derivation.past_place.Statement.{statement}
 use Rattle.host.proofs.derivation.past_place.Tie as tie
 
--- the bits of a counter from place b up, moved there and back
-cut : (x b : ℕ) → x < 2 ^ 21 → (x / 2 ^ b * 2 ^ b % 2 ^ 32 ≡ x / 2 ^ b * 2 ^ b) × (x / 2 ^ b * 2 ^ b < 2 ^ 21)
-cut x b h = let l = div-mul-le-self x (2 ^ b) in (mod-eq-of-lt (omega arith), omega arith)
-
 add-one-way : tie.Need-add-one-way
-add-one-way c = let a = c .before .before .args in omega (arith, cut (a .counter) (a .b) (omega arith), c .wide .ensures)
+add-one-way c = let a = c .before .before .args in omega (arith, bits-moved (a .counter) (a .b) (omega arith), c .wide .ensures)
 
 returns : tie.Need-returns
 returns c =
     let a = c .before .before .before .args in
     rw (eq-eqb (bit (a .counter) (a .b)) 1 (c .before .before .if1 .taken))
-    (c .one-way .ensures ∙ ap (λ (x : ℕ). oneWay (a .key) (a .tail + x)) (c .before .wide .ensures ∙ cut (a .counter) (a .b) (omega arith) .0))
+    (c .one-way .ensures ∙ ap (λ (x : ℕ). oneWay (a .key) (a .tail + x)) (c .before .wide .ensures ∙ bits-moved (a .counter) (a .b) (omega arith) .0))
 
 returns-2 : tie.Need-returns-2
 returns-2 c = rw (ne-eqb (bit (c .before .args .counter) (c .before .args .b)) 1 (c .if1 .left))

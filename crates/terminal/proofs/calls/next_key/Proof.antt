@@ -1,11 +1,10 @@
 -- `terminal::calls::next_key` meets its contract: each of its tests is one of the machine's.
 use borrow.Author.Needs.{needs}
-use borrow.Author.Tests.{not-true, not-false, le-leb, lt-leb}
-use mathlib.Core.Path.{_≡_, refl, sym, ap, _∙_}
-use mathlib.Core.Bool.{true, false, false≢true}
+use borrow.Author.Tests.{not-true, not-false, lt-leb}
+use mathlib.Core.Path.{refl, sym, ap, _∙_}
+use mathlib.Core.Bool.{false≢true}
 use Prim.Native.Nat.{ℕ}
 use native.Mathlib.Omega.{arith}
-use lib.Dec.{leb}
 use lib.ListN.{length}
 use Rattle.lent.specs.Refusals.{badRecord, exhausted, shortBuffer}
 use Rattle.lent.specs.Words.{wordBytes}
@@ -13,7 +12,7 @@ use Rattle.lent.specs.Result.{over}
 use Rattle.lent.proofs.Bases.{to-length}
 use Rattle.lent.proofs.Results.{lent-all}
 use Rattle.registers.specs.Rule.{Valid}
-use Rattle.registers.proofs.Laws.{next-invalid, next-over, next-short, next-full, refused-next, runs-counted}
+use Rattle.registers.proofs.Laws.{next-invalid, next-over, next-short, refused-next, given-next, runs-counted}
 use Rattle.host.specs.SingleLength.{givenOut, singleLength}
 use Rattle.terminal.specs.View.{view}
 use Rattle.terminal.proofs.calls.next_key.Statement.{statement}
@@ -51,16 +50,10 @@ returns-4 : tie.Need-returns-4
 returns-4 c =
     let w = c .before .before .before .before .before .before in
     let k = w .before .before .before .before in
-    let a = k .before .before .before .before .before .args in
     let key = w .before .before .given-out .ensures ∙ ap givenOut (w .before .before .before .ready-key .ensures) in
-    let room : leb 8 (length (a .out .now)) ≡ true = le-leb 8 (length (a .out .now)) (omega arith) in
-    rw (next-full singleLength _ _ (ok (k .before .before)) (k .before .if2 .left) room) (record {
-      number = refl;
-      counter = refl;
-      serial = c .before .with-counter .ensures;
-      left = c .after-key .ensures;
-      memory = lent-all (omega (arith, to-length 256 8 (w .before .before .given-out .result))) (w .lend-word .ensures) ∙ ap (λ (x : ℕ). over (wordBytes x) (a .out .now)) key;
-    })
+    let lent = lent-all (omega (arith, to-length 256 8 (w .before .before .given-out .result))) (w .lend-word .ensures) in
+    given-next singleLength (ok (k .before .before)) (k .before .if2 .left) (omega arith) refl refl (c .before .with-counter .ensures) (c .after-key .ensures)
+    key lent
 
 pub next-key-spec : {M : Type 1} → statement M
 next-key-spec =

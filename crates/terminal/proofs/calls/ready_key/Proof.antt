@@ -8,7 +8,7 @@ use Rattle.terminal.proofs.calls.ready_key.Tie as tie
 
 -- the register is one of the twenty-one
 place : (c : tie.After-lowest-place) → c .lowest-place .result < 21
-place c = let ok = c .before .pre in omega (arith, c .lowest-place .ensures, place-lt (c .before .args .t1 .counter) (ok .from-one) (ok .fits))
+place c = let ok = c .before .pre in omega (arith, c .lowest-place .ensures, place-lt (c .before .args .t1 .position .counter) (ok .from-one) (ok .fits))
 
 mul-result : tie.Need-mul-result
 mul-result c = omega (arith, place c)

@@ -12,7 +12,7 @@ use Rattle.terminal.proofs.state.empties.Statement.{statement}
 use Rattle.terminal.proofs.state.empties.Tie as tie
 
 abbrev Inv-loop : tie.InvT-loop
-Inv-loop t b₀ b = (b ≤ 21) × ((j : ℕ) → j < b → bit (t .filled) j ≡ 0 → getD (t .keys) j 0 ≡ 0)
+Inv-loop t b₀ b = (b ≤ 21) × ((j : ℕ) → j < b → bit (t .position .filled) j ≡ 0 → getD (t .keys) j 0 ≡ 0)
 
 abbrev μ-loop : tie.MeasureT-loop
 μ-loop t b₀ b = 21 - b

@@ -1,0 +1,63 @@
+// Loading a terminal.
+use crate::filling::filled_from;
+use crate::state::Terminal;
+use registers::Position;
+ghost use mathlib.Core.Path.{_≡_};
+ghost use Rattle.lent.specs.Refusals.{numberOf, size};
+ghost use Rattle.registers.specs.Machine.{zeroState};
+ghost use Rattle.registers.specs.Calls.{Load};
+ghost use Rattle.doublehost.specs.DoubleLength.{doubleLength};
+ghost use Rattle.doubleterminal.specs.View.{view};
+
+// The answer of a loading: 0 and the record, or the refusal's number and the all-zero record.
+pub struct Loaded {
+    pub number: u32,
+    pub terminal: Terminal,
+}
+
+// The refusal of a loading.
+fn refused() -> Loaded
+    ensures { λ r. ⌜ (r .number ≡ numberOf size) × (view (r .terminal) ≡ zeroState doubleLength) ⌝ }
+{
+    Loaded {
+        number: lent::SIZE,
+        terminal: Terminal {
+            keys: [doublehost::no_key(); 21],
+            serial: [0u8; 10],
+            position: Position {
+                counter: 0,
+                filled: 0,
+                exhausted: false,
+            },
+        },
+    }
+}
+
+// Loads a terminal with an initial key and a serial number, whose counter is cleared. Refuses with 6 if the key does not have 16 bytes or the
+// serial number 10. Counter 1 is next. A refusal answers the all-zero record.
+pub fn load(initial_key: &[u8], serial_number: &[u8]) -> Loaded
+    ensures { λ r. ⌜ Load doubleLength (now («initial_key» .entry)) (now («serial_number» .entry)) (r .number) (view (r .terminal)) ⌝ }
+{
+    if initial_key.len() != 16 {
+        return refused();
+    }
+    if serial_number.len() != 10 {
+        return refused();
+    }
+    let empty = [doublehost::no_key(); 21];
+    let keys = filled_from(
+        empty,
+        21,
+        doublehost::key_of(initial_key),
+        registers::cleared_tail(serial_number),
+        0,
+    );
+    Loaded {
+        number: lent::DONE,
+        terminal: Terminal {
+            keys,
+            serial: registers::with_counter(serial_number, 0),
+            position: registers::position_at(1),
+        },
+    }
+}

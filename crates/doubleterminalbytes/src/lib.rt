@@ -1,0 +1,6 @@
+// A terminal of double length whose record is 355 lent bytes (include/chizuregwo.h): its loading, and the call for its next key.
+mod calls;
+mod record;
+
+pub use calls::load;
+pub use calls::next_key;
