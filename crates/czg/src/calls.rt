@@ -24,6 +24,7 @@ ghost use Rattle.czg.specs.Private.{Within, answerFor, textFor};
 
 // The places of `terminal-next-key` and `double-terminal-next-key`, which have two values and a record to be changed.
 const NEXT_KEY: usize = 32;
+
 const DOUBLE_NEXT_KEY: usize = 33;
 
 // The place of `self-test`, which has no value.
@@ -254,13 +255,7 @@ fn key_size(place: usize) -> usize
 }
 
 // Calls for a terminal's next key, with so much room lent for the key and for the serial number.
-fn next_key(
-    place: usize,
-    record: &mut [u8],
-    rooms: Rooms,
-    key: &mut [u8],
-    serial: &mut [u8],
-) -> u32
+fn next_key(place: usize, record: &mut [u8], rooms: Rooms, key: &mut [u8], serial: &mut [u8]) -> u32
     requires { ⌜ (rooms .first ≤ length (now key)) × (rooms .second ≤ length (now serial)) ⌝ }
 {
     let first = rooms.first;
@@ -287,13 +282,7 @@ fn put_next_key(out: &mut [u8], n: usize, key: &[u8], serial: &[u8], record: &[u
 }
 
 // Answers a request for a terminal's next key.
-fn answer_next_key(
-    place: usize,
-    record: &mut [u8],
-    rooms: Rooms,
-    out: &mut [u8],
-    n: usize,
-) -> usize
+fn answer_next_key(place: usize, record: &mut [u8], rooms: Rooms, out: &mut [u8], n: usize) -> usize
     requires { ⌜ (rooms .first ≤ 1024) × (rooms .second ≤ 1024) ⌝ }
     requires { ⌜ n ≤ length (now out) ⌝ }
     ensures { λ r. ⌜ r ≤ length (now (out .exit)) ⌝ }

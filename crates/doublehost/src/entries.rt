@@ -21,10 +21,11 @@ fn initial_pair(derivation_key: &[u8], serial_number: &[u8]) -> DoubleKey
     ensures { λ r. ⌜ r ≡ initialOf doubleLength (now («derivation_key» .entry)) (now («serial_number» .entry)) ⌝ }
 {
     let key = key_of(derivation_key);
+    let mask = masked(key);
     let head = registers::cleared_head(serial_number);
     DoubleKey {
         left: tripled(key, head),
-        right: tripled(masked(key), head),
+        right: tripled(mask, head),
     }
 }
 
@@ -55,10 +56,6 @@ pub fn host_key(derivation_key: &[u8], serial_number: &[u8]) -> lent::DoubleBloc
         return lent::refused_double_block(lent::BAD_COUNTER);
     }
     let initial = initial_pair(derivation_key, serial_number);
-    let key = given_out(register_key(
-        initial,
-        registers::cleared_tail(serial_number),
-        counter,
-    ));
+    let key = given_out(register_key(initial, registers::cleared_tail(serial_number), counter));
     lent::double_block_of(key.left, key.right)
 }

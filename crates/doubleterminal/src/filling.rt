@@ -7,7 +7,13 @@ ghost use Rattle.registers.specs.Machine.{fill, stepped, renewed};
 ghost use Rattle.doublehost.specs.DoubleLength.{doubleLength};
 
 // The first n registers filled from the key of the counter c, each by one step with its own bit set in the data; the others are kept.
-pub(crate) fn filled_from(keys: [DoubleKey; 21], n: usize, key: DoubleKey, tail: u64, c: u32) -> [DoubleKey; 21]
+pub(crate) fn filled_from(
+    keys: [DoubleKey; 21],
+    n: usize,
+    key: DoubleKey,
+    tail: u64,
+    c: u32,
+) -> [DoubleKey; 21]
     requires { ⌜ n ≤ 21 ⌝ }
     requires { ⌜ c + 2 ^ n ≤ 2 ^ 21 ⌝ }
     requires { ⌜ tail + 2 ^ 21 ≤ 2 ^ 64 ⌝ }

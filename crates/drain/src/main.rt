@@ -1,6 +1,7 @@
 // One terminal of each length from loading to exhaustion, each key compared with the host's: source document 002's derivation key and serial
 // number for single length, ANS X9.24-1's for double length.
 mod seen;
+
 use doublehost::DoubleKey;
 use seen::nothing;
 use seen::report;

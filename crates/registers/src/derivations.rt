@@ -15,7 +15,10 @@ pub fn derivable(derivation_key: &[u8], serial_number: &[u8]) -> u32
     if serial_number.len() != 10 {
         return lent::SIZE;
     }
-    if cipher::same_key(lent::word_of(derivation_key), lent::right_half(derivation_key)) {
+    if cipher::same_key(
+        lent::word_of(derivation_key),
+        lent::right_half(derivation_key),
+    ) {
         return lent::EQUAL_HALVES;
     }
     lent::DONE

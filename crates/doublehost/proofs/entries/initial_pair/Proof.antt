@@ -7,8 +7,8 @@ use Rattle.doublehost.proofs.entries.initial_pair.Tie as tie
 returns : tie.Need-returns
 unfolding initialPair
 returns c =
-    let first = c .before .before in
-    rw (c .tripled2 .ensures, c .before .masked .ensures, first .tripled .ensures, first .before .cleared-head .ensures, first .before .before .key-of .ensures)
+    let h = c .before .before in
+    rw (c .tripled2 .ensures, c .before .tripled .ensures, h .cleared-head .ensures, h .before .masked .ensures, h .before .before .key-of .ensures)
 
 pub initial-pair-spec : {M : Type 1} → statement M
 initial-pair-spec =
