@@ -14,7 +14,7 @@ use Rattle.lent.proofs.Parts.{word-read, word-reread}
 use Rattle.cipher.proofs.Laws.{triple-encrypted-lt}
 use Rattle.registers.proofs.Laws.{ReadBack, Lawful}
 use Rattle.host.proofs.Laws.{step-lt}
-use Rattle.doublehost.specs.DoubleLength.{keyBytes, keyOf, masked, initialPair, oneWay, doubleLength}
+use Rattle.doublehost.specs.DoubleLength.{keyBytes, keyOf, mask, masked, initialPair, oneWay, doubleLength}
 use Rattle.doublehost.specs.declared.keys.DoubleKey.{DoubleKey}
 
 -- the halves that are read from a key's bytes
@@ -38,7 +38,7 @@ right-below key b = omega (arith, right-read key [], ap (λ (k : DoubleKey). k .
 -- the mask keeps words
 masked-right : (key : DoubleKey) → key .right < 2 ^ 64 → masked key .right < 2 ^ 64
 unfolding masked
-masked-right key h = xor-lt 64 (key .right) 0xC0C0C0C000000000 h (lit< tt)
+masked-right key h = xor-lt 64 (key .right) mask h (lit< tt)
 
 -- the bytes of the key that bytes start with
 reread : (s : List ℕ) → Digits 256 s → 16 ≤ length s → keyBytes (keyOf s) ≡ take 16 s

@@ -21,9 +21,12 @@ keyBytes key = wordBytes (key .left) ++ wordBytes (key .right)
 abbrev pub noKey : DoubleKey
 noKey = record { left = 0; right = 0 }
 
--- the mask is exclusive-or'd into both halves
+-- the mask, and a key with it exclusive-or'd into both halves
+abbrev pub mask : ℕ
+mask = 0xC0C0_C0C0_0000_0000
+
 unfoldable pub masked : DoubleKey → DoubleKey
-masked key = record { left = bitXor (key .left) 0xC0C0C0C000000000; right = bitXor (key .right) 0xC0C0C0C000000000 }
+masked key = record { left = bitXor (key .left) mask; right = bitXor (key .right) mask }
 
 -- triple DES of a block under the two halves of a key
 abbrev pub tripled : DoubleKey → ℕ → ℕ

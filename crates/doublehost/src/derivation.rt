@@ -23,9 +23,9 @@ pub(crate) fn masked(key: DoubleKey) -> DoubleKey
 pub fn one_way(key: DoubleKey, block: u64) -> DoubleKey
     ensures { λ r. ⌜ r ≡ oneWay key block ⌝ }
 {
-    let mask = masked(key);
+    let masked_key = masked(key);
     DoubleKey {
-        left: host::step(mask.left, mask.right, block),
+        left: host::step(masked_key.left, masked_key.right, block),
         right: host::step(key.left, key.right, block),
     }
 }

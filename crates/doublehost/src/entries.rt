@@ -21,11 +21,11 @@ fn initial_pair(derivation_key: &[u8], serial_number: &[u8]) -> DoubleKey
     ensures { λ r. ⌜ r ≡ initialOf doubleLength (now («derivation_key» .entry)) (now («serial_number» .entry)) ⌝ }
 {
     let key = key_of(derivation_key);
-    let mask = masked(key);
+    let masked_key = masked(key);
     let head = registers::cleared_head(serial_number);
     DoubleKey {
         left: tripled(key, head),
-        right: tripled(mask, head),
+        right: tripled(masked_key, head),
     }
 }
 

@@ -1,4 +1,4 @@
--- Only contracts of private functions cite these: a value that was appended within memory that has room for it.
+-- Only contracts of functions that are no entry cite these: a value that was appended within memory that has room for it.
 use mathlib.Core.Path.{_≡_}
 use mathlib.Core.List.{List, _++_}
 use Prim.Native.Nat.{ℕ, _+_, _≤_}

@@ -17,7 +17,8 @@ use Rattle.registers.specs.Device.{Device}
 abbrev pub sameHalves : List ℕ → Bool
 sameHalves derivation = sameKey (left derivation) (right derivation)
 
--- the result, if a key can be derived from them, or the refusal: 6 for another size, 9 for halves that agree without low bits
+-- the result, if a key can be derived from a derivation key and a serial number, or the refusal: 6 for another size, 9 for halves that agree
+-- without low bits
 unfoldable pub derivable : List ℕ → List ℕ → Result (List ℕ) → Result (List ℕ)
 derivable derivation serial r =
     require (eqb (length derivation) 16) size
