@@ -17,8 +17,10 @@ fn put_registers(keys: [DoubleKey; 21], bytes: &mut [u8]) -> usize
     let mut n: usize = 0;
     let mut i: usize = 0;
     while i < 21 {
-        let register = doublehost::bytes_of(keys[i]);
-        n = recordbytes::put(bytes, n, &register);
+        let left = lent::bytes_of(keys[i].left);
+        let right = lent::bytes_of(keys[i].right);
+        n = recordbytes::put(bytes, n, &left);
+        n = recordbytes::put(bytes, n, &right);
         i += 1;
     }
     n
@@ -45,7 +47,11 @@ fn registers_of(bytes: &[u8]) -> [DoubleKey; 21]
     let mut keys = [doublehost::no_key(); 21];
     let mut i: usize = 0;
     while i < 21 {
-        keys[i] = doublehost::key_of(&bytes[16 * i..]);
+        let key = DoubleKey {
+            left: lent::word_of(&bytes[16 * i..]),
+            right: lent::word_of(&bytes[16 * i + 8..]),
+        };
+        keys[i] = key;
         i += 1;
     }
     keys

@@ -26,12 +26,16 @@ loop-holds c = (search needs, refl, λ room. nothing-appended)
 
 loop-again : tie.Need-loop-again Inv-loop μ-loop
 loop-again c =
-    let l = c .before .before .before .before .before .before .before .before in
-    let word = c .before .before .before .before .before .bytes-of .ensures in
-    let keys = l .before .before .args .t1 in (
+    let q = c .before .before in
+    let p = q .before .before .before .before .before in
+    let r = p .before .before .before in
+    let l = r .before .before .before in
+    let keys = l .before .before .args .t1 in
+    let left = rw (r .before .bytes-of .ensures) at (p .put .ensures) in
+    let right = rw (r .bytes-of2 .ensures) at (q .put2 .ensures) in (
       search needs,
       search needs,
-      rw (add-one (l .loop .i), registers-snoc doubleLength keys (l .loop .i) (omega arith)) (both-appends (l .loop .inv .2) (rw word at (c .before .before .put .ensures))),
+      rw (add-one (l .loop .i), registers-snoc doubleLength keys (l .loop .i) (omega arith)) (both-appends (l .loop .inv .2) (both-appends left right)),
     )
 
 returns : tie.Need-returns Inv-loop μ-loop
@@ -43,5 +47,5 @@ returns c =
 pub put-registers-spec : {M : Type 1} → statement M
 put-registers-spec =
     tie.close
-    (tie.spec Inv-loop μ-loop loop-holds (λ c. search needs) (λ c. search needs) (λ c κs. search needs)
-    (λ c. search needs) (λ c κs. search needs) (λ c. search needs) (λ c. search needs) loop-again (λ c. search needs) returns)
+    (tie.spec Inv-loop μ-loop loop-holds (λ c. search needs) (λ c. search needs) (λ c κs. search needs) (λ c. search needs) (λ c. search needs) (λ c κs. search needs)
+    (λ c. search needs) (λ c κs. search needs) (λ c. search needs) (λ c κs. search needs) (λ c. search needs) (λ c. search needs) loop-again (λ c. search needs) returns)

@@ -1,13 +1,15 @@
 -- `doubleterminalbytes::record::registers_of` meets its contract: the registers passed are read.
 use borrow.Author.Needs.{needs}
-use mathlib.Core.Path.{_≡_, refl, sym, ap, _∙_}
+use mathlib.Core.Path.{_≡_, refl, sym, ap, ap₂, _∙_}
 use mathlib.Core.List.{List, [], _++_, append-nil}
 use Prim.Native.Nat.{ℕ, _+_, _-_, _*_, _≤_}
 use native.Mathlib.Omega.{arith}
-use lib.ListN.{length, take, drop, length-drop}
-use lib.Seq.{take-all}
+use lib.ListN.{length, take, drop}
+use lib.Seq.{take-all, drop-drop}
+use Rattle.lent.specs.Words.{word}
+use Rattle.lent.proofs.Lists.{part-rest}
 use Rattle.doublehost.specs.declared.keys.DoubleKey.{DoubleKey}
-use Rattle.doublehost.specs.DoubleLength.{keyOf, doubleLength}
+use Rattle.doublehost.specs.DoubleLength.{doubleLength}
 use Rattle.recordbytes.specs.RecordBytes.{registersOf}
 use Rattle.recordbytes.proofs.Bytes.{registers-more}
 use Rattle.doubleterminalbytes.proofs.record.registers_of.Statement.{statement}
@@ -24,11 +26,14 @@ loop-holds c = (search needs, search needs, refl)
 
 loop-again : tie.Need-loop-again Inv-loop μ-loop
 loop-again c =
-    let l = c .before .before .before in
+    let w = c .before .before in
+    let l = w .before .before .before in
     let s = l .before .before .before .args .bytes .now in
     let at = 16 * l .loop .i in
-    let rest : take (length s - at) (drop at s) ≡ drop at s = take-all (length s - at) (drop at s) (omega (arith, length-drop at s)) in
-    (search needs, search needs, registers-more doubleLength 21 s (l .loop .keys) _ (l .loop .i) (omega arith) (l .loop .inv .1) (c .key-of .ensures ∙ ap keyOf rest) (l .loop .inv .2))
+    let left = w .word-of .ensures ∙ ap word (part-rest at s) in
+    let right = c .word-of2 .ensures ∙ ap word (part-rest (at + 8) s ∙ sym (drop-drop 8 at s)) in
+    let key = ap₂ {C = DoubleKey} (λ (x y : ℕ). record { left = x; right = y }) left right in
+    (search needs, search needs, registers-more doubleLength 21 s (l .loop .keys) _ (l .loop .i) (omega arith) (l .loop .inv .1) key (l .loop .inv .2))
 
 returns : tie.Need-returns Inv-loop μ-loop
 unfolding registersOf
@@ -40,6 +45,5 @@ returns c =
 pub registers-of-spec : {M : Type 1} → statement M
 registers-of-spec =
     tie.close
-    (tie.spec Inv-loop μ-loop (λ c κs. search needs) loop-holds (λ c. search needs) (λ c. search needs) (λ c. search needs)
-    (λ c. search needs) (λ c κs. search needs) (λ c. search needs) (λ c. search needs) (λ c. search needs)
-    (λ c. search needs) loop-again returns)
+    (tie.spec Inv-loop μ-loop (λ c κs. search needs) loop-holds (λ c. search needs) (λ c. search needs) (λ c. search needs) (λ c. search needs) (λ c κs. search needs)
+    (λ c. search needs) (λ c. search needs) (λ c. search needs) (λ c. search needs) (λ c. search needs) (λ c κs. search needs) (λ c. search needs) (λ c. search needs) (λ c. search needs) (λ c. search needs) loop-again returns)
