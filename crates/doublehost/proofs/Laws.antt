@@ -1,5 +1,6 @@
--- What other crates cite: the double-length terminal is lawful, so that demand 3 holds of it.
-use mathlib.Core.Path.{_≡_, sym, ap, ap₂, _∙_}
+-- What other crates cite: the double-length terminal is lawful, so that demand 3 holds of it; and the left half of its initial key is the
+-- single-length one.
+use mathlib.Core.Path.{_≡_, refl, sym, ap, ap₂, _∙_}
 use mathlib.Core.List.{List, [], _++_, append-assoc}
 use Prim.Native.Nat.{ℕ, _%_, _^_, _≤_, _<_}
 use native.Mathlib.Nat.{mod-eq-of-lt}
@@ -13,6 +14,7 @@ use Rattle.lent.proofs.Bases.{Digits, digits-drop, to-length, from-lt}
 use Rattle.lent.proofs.Parts.{word-read, word-reread}
 use Rattle.cipher.proofs.Laws.{triple-encrypted-lt}
 use Rattle.registers.proofs.Laws.{ReadBack, Lawful}
+use Rattle.host.specs.SingleLength.{initialWord}
 use Rattle.host.proofs.Laws.{step-lt}
 use Rattle.doublehost.specs.DoubleLength.{keyBytes, keyOf, mask, masked, initialPair, oneWay, doubleLength}
 use Rattle.doublehost.specs.declared.keys.DoubleKey.{DoubleKey}
@@ -45,6 +47,11 @@ reread : (s : List ℕ) → Digits 256 s → 16 ≤ length s → keyBytes (keyOf
 reread s d h =
     ap₂ (λ (a b : List ℕ). a ++ b) (word-reread s d (omega arith)) (word-reread (drop 8 s) (digits-drop 256 8 s d) (rw length-drop (omega arith)))
     ∙ sym (take-add 8 8 s)
+
+-- the left half of the initial key is the initial key of a single-length terminal
+pub left-single : (derivation : List ℕ) (head : ℕ) → initialPair derivation head .left ≡ initialWord derivation head
+unfolding initialPair initialWord
+left-single derivation head = refl
 
 pub lawful : Lawful doubleLength
 unfolding oneWay initialPair

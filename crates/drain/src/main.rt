@@ -30,8 +30,8 @@ fn double_host_key(derivation_key: &[u8], serial_number: [u8; 10]) -> DoubleKey 
     doublehost::key_of(&value)
 }
 
-// Takes every key of a terminal of single length, at most 1,048,576 calls.
-fn drained(derivation_key: &[u8], loaded: terminal::Terminal) {
+// Takes every key of a terminal of single length, at most 1,048,576 calls, and gives whether its report was written.
+fn drained(derivation_key: &[u8], loaded: terminal::Terminal) -> bool {
     let mut t = loaded;
     let mut seen = nothing(false);
     let mut calls: u64 = 0;
@@ -40,8 +40,7 @@ fn drained(derivation_key: &[u8], loaded: terminal::Terminal) {
         let mut buffer = [0u8; 8];
         let given = terminal::next_key(t, &mut buffer);
         if given.number != lent::DONE {
-            report(seen, given.number);
-            return;
+            return report(seen, given.number);
         }
         let serial_number = given.serial;
         let host = host_key(derivation_key, serial_number);
@@ -49,11 +48,11 @@ fn drained(derivation_key: &[u8], loaded: terminal::Terminal) {
         let left = given.terminal;
         t = left;
     }
-    text(b"the terminal does not end\n");
+    text(b"the terminal does not end\n")
 }
 
-// Takes every key of a terminal of double length, at most 1,048,576 calls.
-fn double_drained(derivation_key: &[u8], loaded: doubleterminal::Terminal) {
+// Takes every key of a terminal of double length, at most 1,048,576 calls, and gives whether its report was written.
+fn double_drained(derivation_key: &[u8], loaded: doubleterminal::Terminal) -> bool {
     let mut t = loaded;
     let mut seen = nothing(true);
     let mut calls: u64 = 0;
@@ -62,8 +61,7 @@ fn double_drained(derivation_key: &[u8], loaded: doubleterminal::Terminal) {
         let mut buffer = [0u8; 16];
         let given = doubleterminal::next_key(t, &mut buffer);
         if given.number != lent::DONE {
-            report(seen, given.number);
-            return;
+            return report(seen, given.number);
         }
         let serial_number = given.serial;
         let host = double_host_key(derivation_key, serial_number);
@@ -71,37 +69,35 @@ fn double_drained(derivation_key: &[u8], loaded: doubleterminal::Terminal) {
         let left = given.terminal;
         t = left;
     }
-    text(b"the terminal does not end\n");
+    text(b"the terminal does not end\n")
 }
 
-// Loads a terminal of single length and takes every key.
-fn drain() {
+// Loads a terminal of single length and takes every key; gives whether its report was written.
+fn drain() -> bool {
     let derivation_key = b"\x51\x52\x54\x57\x58\x5B\x5D\x5E\x61\x62\x64\x67\x68\x6B\x6D\x6E";
     let serial_number = b"\x01\x23\x45\x67\x89\xAB\xCD\xF0\x00\x01";
     let initial = host::initial_key(derivation_key, serial_number);
     let key = initial.value;
     let loaded = terminal::load(&key, serial_number);
     if loaded.number != lent::DONE {
-        text(b"not loaded\n");
-        return;
+        return text(b"not loaded\n");
     }
     let t = loaded.terminal;
-    drained(derivation_key, t);
+    drained(derivation_key, t)
 }
 
-// Loads a terminal of double length and takes every key.
-fn double_drain() {
+// Loads a terminal of double length and takes every key; gives whether its report was written.
+fn double_drain() -> bool {
     let derivation_key = b"\x01\x23\x45\x67\x89\xAB\xCD\xEF\xFE\xDC\xBA\x98\x76\x54\x32\x10";
     let serial_number = b"\xFF\xFF\x98\x76\x54\x32\x10\xE0\x00\x00";
     let initial = doublehost::initial_key(derivation_key, serial_number);
     let key = initial.value;
     let loaded = doubleterminal::load(&key, serial_number);
     if loaded.number != lent::DONE {
-        text(b"not loaded\n");
-        return;
+        return text(b"not loaded\n");
     }
     let t = loaded.terminal;
-    double_drained(derivation_key, t);
+    double_drained(derivation_key, t)
 }
 
 // Whether the program was asked for something else than its work.
@@ -125,6 +121,7 @@ fn main() {
     if asked() {
         return;
     }
-    drain();
-    double_drain();
+    if drain() {
+        double_drain();
+    }
 }
