@@ -1,6 +1,7 @@
--- Laws for the callers: Laws and Xor. The others are steps of the proofs.
+-- For the callers: Laws and Xor, and the published examples in Vectors. The others are steps of the proofs.
 pub mod Laws
 pub mod Xor
+pub mod Vectors
 mod Exchanges
 mod Feistel
 mod Inverse
@@ -12,5 +13,4 @@ mod Range
 mod Recovered
 mod RoundKeys
 mod Tabled
-mod Vectors
 mod Windows
