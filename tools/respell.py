@@ -6,15 +6,13 @@ usage: tools/respell.py [--say]    in the repository, once, on what port.py wrot
 A name is respelt where a file of specs/, or of proofs/ beside a function's folder, declares it: `keySize` and `key-size` become `key_size`. Where two names fall together the lemma
 gets `_lem`. Names of functions, of types and modules, and of what the check makes are left. Must-fail edits and wrong/ are respelt in their texts alone.
 """
-import collections
 import glob
 import os
 import re
 import sys
 
 TOKEN = re.compile(r"[A-Za-z_\u00c0-\uffff][\w'\u2032\u2080-\u2089-]*")
-DECLARES = re.compile(r"^(?:abbrev |unfoldable |pub )*([A-Za-z_\u03b1-\u03c9][\w'-]*)\s+:(?:\s|$)")
-MEMBER = re.compile(r"^  +(?:pub )?((?:[A-Za-z_][\w'-]*)(?: [A-Za-z_][\w'-]*)*) : ")
+DECLARES = re.compile(r"^\s*(?:abbrev |unfoldable |pub )*((?:[A-Za-z_][\w'-]*)(?: [A-Za-z_][\w'-]*)*)\s+:(?:\s|$)")
 
 
 def texts(*patterns):
@@ -27,24 +25,19 @@ def own(f):
 
 
 def declared(files):
-    found = collections.OrderedDict()
+    """The names that files declare: definitions, lemmas, fields and cases, those inside a module too."""
+    found = {}
     for f in files:
-        in_type = False
         for line in open(f, encoding="utf-8"):
-            if line.lstrip().startswith("--"):
-                continue
-            if re.match(r"^(?:pub )?(?:data|record) ", line):
-                in_type = True
-                continue
-            if line.strip() and not line.startswith(" "):
-                in_type = False
             m = DECLARES.match(line)
-            if m:
-                found.setdefault(m[1], set()).add("/proofs/" in f and "lemma" or "definition")
-            elif in_type and (m := MEMBER.match(line)):
+            if m and not line.lstrip().startswith(("--", "let ")):
                 for name in m[1].split():
-                    found.setdefault(name, set()).add("member")
+                    found[name] = True
     return found
+
+
+# Where a definition and a lemma fall together and port.py has respelt the lemma already: the definition has the plain name.
+CHOSEN = {"sameBytes": "same_bytes", "same_bytes": "same_bytes_lem"}
 
 
 def snake(name):
@@ -53,9 +46,9 @@ def snake(name):
 
 
 def table(found):
-    old = [n for n in found if not n[0].isupper() and snake(n) != n]
-    plain = {n for n in found if snake(n) == n}
-    new, taken = {}, set(plain)
+    old = [n for n in found if not n[0].isupper() and snake(n) != n and n not in CHOSEN]
+    new = {n: s for n, s in CHOSEN.items() if n in found}
+    taken = {n for n in found if snake(n) == n} | set(CHOSEN.values())
     for n in sorted(old, key=lambda n: ("-" in n, n)):
         s = snake(n)
         if s in taken:

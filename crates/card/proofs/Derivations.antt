@@ -10,14 +10,14 @@ use lib.Arith.{digits_mod}
 use lib.Dec.{leb, lit<}
 use lib.ListN.{length, take, drop, replicate, length-replicate, take-append-drop}
 use lib.Seq.{length-take-le}
-use Rattle.lent.proofs.Parts.{from-append, from-zeros}
+use Rattle.lent.proofs.Parts.{from_append, from_zeros}
 use Rattle.lent.proofs.HalfBytes.{half_byte, values_half_bytes, low_digits}
 use Rattle.lent.proofs.Lists.{all_append, all_replicate, all_drop, elements_below}
 use Rattle.lent.specs.Choice.{all}
 use Rattle.lent.specs.Characters.{digit, digit_of, two_digits}
 use Rattle.lent.specs.HalfBytes.{low_half, word_of}
 use Rattle.lent.specs.Words.{from_base, to_base}
-use Rattle.lent.proofs.Bases.{Digits, from-lt}
+use Rattle.lent.proofs.Bases.{Digits, from_lt}
 use Rattle.lent.proofs.Laws.{cases}
 use Rattle.card.specs.Derivation.{card_digits, rightmost, derivation_word}
 
@@ -44,8 +44,8 @@ module _ (b n : ℕ) (s : List ℕ) where
       let z : length s - n ≡ 0 = omega arith in
       rw z
       (ap (λ (m : ℕ). from_base b m (zeros ++ s)) e
-      ∙ from-append b zeros s (length s)
-      ∙ rw (from-zeros b (length zeros) (n - length s), zero-mul, zero-add))
+      ∙ from_append b zeros s (length s)
+      ∙ rw (from_zeros b (length zeros) (n - length s), zero-mul, zero-add))
 
   -- of another, those after the first
   long : n < length s → from_base b (length s) s ≡ from_base b (length s - n) (take (length s - n) s) * b ^ n + from_base b n (rightmost n s)
@@ -58,13 +58,13 @@ module _ (b n : ℕ) (s : List ℕ) where
       rw z
       (ap (λ (m : ℕ). from_base b m s) e
       ∙ ap (from_base b (length (take k s) + n)) (sym (take-append-drop k s))
-      ∙ from-append b (take k s) (drop k s) n
+      ∙ from_append b (take k s) (drop k s) n
       ∙ rw t)
 
   -- what is left of the number below the base to the power n
-  rightmost-word : Digits b (rightmost n s) → from_base b n (rightmost n s) ≡ from_base b (length s) s % b ^ n
-  rightmost-word d =
-      let lt = from-lt b n (rightmost n s) d in
+  rightmost_word : Digits b (rightmost n s) → from_base b n (rightmost n s) ≡ from_base b (length s) s % b ^ n
+  rightmost_word d =
+      let lt = from_lt b n (rightmost n s) d in
       cases (leb (length s) n)
       (λ h. rw (← short (leb-true _ _ h)) (sym (mod-eq_of_lt lt)))
       (λ h. rw (long (leb-false _ _ h)) (sym (digits_mod _ lt)))
@@ -72,7 +72,7 @@ module _ (b n : ℕ) (s : List ℕ) where
 -- Y is the word of the digits' half_bytes
 pub derivation_value : (card : List ℕ) (sequence : ℕ) → all digit card ≡ true → derivation_word card sequence ≡ word_of (card_digits card sequence)
 unfolding derivation_word word_of
-derivation_value card sequence e = rightmost-word 16 16 (card_digits card sequence) (half_bytes card sequence e)
+derivation_value card sequence e = rightmost_word 16 16 (card_digits card sequence) (half_bytes card sequence e)
 
 -- the low half_bytes of the digits of a sequence
 low_two : (n : ℕ) → map low_half (two_digits n) ≡ to_base 10 2 n

@@ -12,10 +12,10 @@ use Rattle.lent.specs.Result.{Result, done, refused, number, and_then}
 use Rattle.lent.specs.Words.{byte}
 use Rattle.lent.proofs.Bases.{Digits, to_bytes}
 use Rattle.lent.proofs.Lists.{all_append, elements_below}
-use Rattle.lent.proofs.Results.{same-done, require-done, then_done}
+use Rattle.lent.proofs.Results.{same_done, require_done, then_done}
 use Rattle.parity.specs.Parity.{odd_parity, adjusted, without_low_bits}
 use Rattle.parity.proofs.Laws.{odd_parity_lem, low_bits_alone, no_other}
-use Rattle.parity.proofs.LowBits.{same-triple}
+use Rattle.parity.proofs.LowBits.{same_triple}
 use Rattle.card.specs.DoubleKey.{double_size}
 use Rattle.card.specs.Entries.{derivation_data, unadjusted_card_key, card_key, session_key, arqc, arpc}
 
@@ -26,7 +26,7 @@ pub session_same : (key other : List ℕ) → Digits 256 key → without_low_bit
 unfolding session_key
 session_same key other d e counter =
     let n : length other ≡ length key = sym (length-map other _) ∙ ap length e ∙ length-map key _ in
-    simp (n, same-triple key other d e)
+    simp (n, same_triple key other d e)
 
 -- ---- the card key
 
@@ -52,37 +52,37 @@ module _ (master card : List ℕ) (sequence : ℕ) where
 
   module _ {key : List ℕ} (e : unadjusted_card_key master card sequence ≡ done key) where
     -- it is the one key with an odd number of ones in every byte that agrees with the unadjusted one but for low bits
-    pub card-key-exactly : (other : List ℕ)
+    pub card_key_exactly : (other : List ℕ)
         → (card_key master card sequence ≡ done other) ↔ ((odd_parity other ≡ true) × (without_low_bits other ≡ without_low_bits key))
     unfolding card_key
-    card-key-exactly other =
+    card_key_exactly other =
         let k : and_then (unadjusted_card_key master card sequence) (λ key. done (adjusted key)) ≡ done (adjusted key) = rw e in (
-          λ f. let g = same-done (sym k ∙ f) in
+          λ f. let g = same_done (sym k ∙ f) in
               (subst (λ (s : List ℕ). odd_parity s ≡ true) g (odd_parity_lem key), subst (λ (s : List ℕ). without_low_bits s ≡ without_low_bits key) g (low_bits_alone key)),
           λ p. k ∙ ap done (sym (no_other key other p.0 p.1)),
         )
 
-    unadjusted-bytes : Digits 256 key
+    unadjusted_bytes : Digits 256 key
     unfolding unadjusted_card_key
-    unadjusted-bytes =
-        let y = then_done (derivation_data card sequence) _ key (require-done (double_size master) size _ key e).1 in
-        elements_below 256 key (lit< tt) (subst (λ (s : List ℕ). all byte s ≡ true) (same-done y.2) (simp (all_append byte, to_bytes)))
+    unadjusted_bytes =
+        let y = then_done (derivation_data card sequence) _ key (require_done (double_size master) size _ key e).1 in
+        elements_below 256 key (lit< tt) (subst (λ (s : List ℕ). all byte s ≡ true) (same_done y.2) (simp (all_append byte, to_bytes)))
 
   -- the session key under it is the one under the unadjusted one
-  pub same-session-key : (counter : ℕ)
+  pub same_session_key : (counter : ℕ)
       → session_under (card_key master card sequence) counter ≡ session_under (unadjusted_card_key master card sequence) counter
   unfolding card_key
-  same-session-key counter =
+  same_session_key counter =
       then_same (unadjusted_card_key master card sequence) (λ key. session_key key counter)
-      (λ key e. session_same key (adjusted key) (unadjusted-bytes e) (low_bits_alone key) counter)
+      (λ key e. session_same key (adjusted key) (unadjusted_bytes e) (low_bits_alone key) counter)
 
   -- so are the ARQC and the ARPC
-  pub same-arqc : (counter : ℕ) (cardData : List ℕ)
+  pub same_arqc : (counter : ℕ) (cardData : List ℕ)
       → and_then (session_under (card_key master card sequence) counter) (λ key. arqc key cardData)
       ≡ and_then (session_under (unadjusted_card_key master card sequence) counter) (λ key. arqc key cardData)
-  same-arqc counter cardData = ap (λ (r : Result (List ℕ)). and_then r (λ key. arqc key cardData)) (same-session-key counter)
+  same_arqc counter cardData = ap (λ (r : Result (List ℕ)). and_then r (λ key. arqc key cardData)) (same_session_key counter)
 
-  pub same-arpc : (counter : ℕ) (cryptogram code : List ℕ)
+  pub same_arpc : (counter : ℕ) (cryptogram code : List ℕ)
       → and_then (session_under (card_key master card sequence) counter) (λ key. arpc key cryptogram code)
       ≡ and_then (session_under (unadjusted_card_key master card sequence) counter) (λ key. arpc key cryptogram code)
-  same-arpc counter cryptogram code = ap (λ (r : Result (List ℕ)). and_then r (λ key. arpc key cryptogram code)) (same-session-key counter)
+  same_arpc counter cryptogram code = ap (λ (r : Result (List ℕ)). and_then r (λ key. arpc key cryptogram code)) (same_session_key counter)

@@ -1,6 +1,6 @@
 // The host's derivations of a terminal's keys, of single and of double length.
 ghost use Rattle.lent.specs.Result.{Written};
-ghost use Rattle.registers.specs.Host.{initialKey, hostKey};
+ghost use Rattle.registers.specs.Host.{initial_key, host_key};
 ghost use Rattle.host.specs.SingleLength.{single_length};
 ghost use Rattle.doublehost.specs.DoubleLength.{double_length};
 
@@ -13,7 +13,7 @@ pub extern "C" fn czg_initial_key(
     serial_number: &[u8],
     out: &mut [u8],
 ) -> lent::Answer
-    ensures { Written (initialKey single_length derivation_key.now serial_number.now) out.old result.number result.length out.new }
+    ensures { Written (initial_key single_length derivation_key.now serial_number.now) out.old result.number result.length out.new }
 {
     lend_block(host::initial_key(derivation_key, serial_number), out)
 }
@@ -25,7 +25,7 @@ pub extern "C" fn czg_host_key(
     serial_number: &[u8],
     out: &mut [u8],
 ) -> lent::Answer
-    ensures { Written (hostKey single_length derivation_key.now serial_number.now) out.old result.number result.length out.new }
+    ensures { Written (host_key single_length derivation_key.now serial_number.now) out.old result.number result.length out.new }
 {
     lend_block(host::host_key(derivation_key, serial_number), out)
 }
@@ -37,7 +37,7 @@ pub extern "C" fn czg_double_initial_key(
     serial_number: &[u8],
     out: &mut [u8],
 ) -> lent::Answer
-    ensures { Written (initialKey double_length derivation_key.now serial_number.now) out.old result.number result.length out.new }
+    ensures { Written (initial_key double_length derivation_key.now serial_number.now) out.old result.number result.length out.new }
 {
     lend_double_block(doublehost::initial_key(derivation_key, serial_number), out)
 }
@@ -49,7 +49,7 @@ pub extern "C" fn czg_double_host_key(
     serial_number: &[u8],
     out: &mut [u8],
 ) -> lent::Answer
-    ensures { Written (hostKey double_length derivation_key.now serial_number.now) out.old result.number result.length out.new }
+    ensures { Written (host_key double_length derivation_key.now serial_number.now) out.old result.number result.length out.new }
 {
     lend_double_block(doublehost::host_key(derivation_key, serial_number), out)
 }

@@ -2,7 +2,7 @@
 ghost use Rattle.lent.specs.Result.{Written};
 ghost use Rattle.host.specs.SingleLength.{single_length};
 ghost use Rattle.doublehost.specs.DoubleLength.{double_length};
-ghost use Rattle.recordbytes.specs.Calls.{loadedBytes, Next};
+ghost use Rattle.recordbytes.specs.Calls.{loaded_bytes, Next};
 
 // Loads a terminal, and writes its record of 187 bytes. Refuses with 6, 13.
 #[unsafe(no_mangle)]
@@ -11,7 +11,7 @@ pub extern "C" fn czg_terminal_load(
     serial_number: &[u8],
     out: &mut [u8],
 ) -> lent::Answer
-    ensures { Written (loadedBytes single_length initial_key.now serial_number.now) out.old result.number result.length out.new }
+    ensures { Written (loaded_bytes single_length initial_key.now serial_number.now) out.old result.number result.length out.new }
 {
     terminalbytes::load(initial_key, serial_number, out)
 }
@@ -24,7 +24,7 @@ pub extern "C" fn czg_terminal_next_key(
     key: &mut [u8],
     serial_number: &mut [u8],
 ) -> lent::Answer
-    ensures { Next single_length «record».old (record { key_before = key.old; serial_before = serial_number.old; number = result.number; length = result.length; record_after = «record».new; key_after = key.new; serial_after = serial_number.new }) }
+    ensures { Next single_length «record».old (record { key_before = key.old; serial_before = serial_number.old; number = result.number; length = result.length; record_after_lem = «record».new; key_after = key.new; serial_after = serial_number.new }) }
 {
     terminalbytes::next_key(record, key, serial_number)
 }
@@ -36,7 +36,7 @@ pub extern "C" fn czg_double_terminal_load(
     serial_number: &[u8],
     out: &mut [u8],
 ) -> lent::Answer
-    ensures { Written (loadedBytes double_length initial_key.now serial_number.now) out.old result.number result.length out.new }
+    ensures { Written (loaded_bytes double_length initial_key.now serial_number.now) out.old result.number result.length out.new }
 {
     doubleterminalbytes::load(initial_key, serial_number, out)
 }
@@ -49,7 +49,7 @@ pub extern "C" fn czg_double_terminal_next_key(
     key: &mut [u8],
     serial_number: &mut [u8],
 ) -> lent::Answer
-    ensures { Next double_length «record».old (record { key_before = key.old; serial_before = serial_number.old; number = result.number; length = result.length; record_after = «record».new; key_after = key.new; serial_after = serial_number.new }) }
+    ensures { Next double_length «record».old (record { key_before = key.old; serial_before = serial_number.old; number = result.number; length = result.length; record_after_lem = «record».new; key_after = key.new; serial_after = serial_number.new }) }
 {
     doubleterminalbytes::next_key(record, key, serial_number)
 }

@@ -12,7 +12,7 @@ use lib.Dec.{when, eqb, eqb→eq, lit<}
 use lib.ListN.{length}
 use lib.Pow.{pow_pos, shr_lt, split}
 use Rattle.cipher.specs.Bits.{bit, permuted}
-use Rattle.cipher.proofs.Permutation.{permuted-cons, permuted-lt}
+use Rattle.cipher.proofs.Permutation.{permuted_cons, permuted_lt}
 use Rattle.cipher.proofs.Range.{passed}
 use Rattle.cipher.proofs.Xor.{xor_assoc, same}
 
@@ -79,8 +79,8 @@ nothing_of w a b = sym (xor_self 0)
 selection_of : (w : ℕ) (table : List ℕ) (a b : ℕ) → permuted w table (bit_xor a b) ≡ bit_xor (permuted w table a) (permuted w table b)
 selection_of w [] a b = nothing_of w a b
 selection_of w (i ∷ table) a b =
-    rw (permuted-cons w (bit_xor a b) i table, permuted-cons w a i table, permuted-cons w b i table, bit_of w i a b, selection_of w table a b)
-    (sym (xor_block (length table) _ _ _ _ (permuted-lt w a table) (permuted-lt w b table)))
+    rw (permuted_cons w (bit_xor a b) i table, permuted_cons w a i table, permuted_cons w b i table, bit_of w i a b, selection_of w table a b)
+    (sym (xor_block (length table) _ _ _ _ (permuted_lt w a table) (permuted_lt w b table)))
 
 pub selection : (w : ℕ) (table : List ℕ) → Linear (permuted w table)
 selection w table = record { of = selection_of w table }

@@ -13,29 +13,29 @@ use lib.Seq.{take-suc}
 use Rattle.cipher.specs.Bits.{bit, permuted}
 
 module _ (w x : ℕ) where
-  pub permuted-cons : (i : ℕ) (table : List ℕ) → permuted w (i ∷ table) x ≡ bit w x i * 2 ^ length table + permuted w table x
+  pub permuted_cons : (i : ℕ) (table : List ℕ) → permuted w (i ∷ table) x ≡ bit w x i * 2 ^ length table + permuted w table x
   unfolding permuted
-  permuted-cons i table = rw (length-map table (bit w x))
+  permuted_cons i table = rw (length-map table (bit w x))
 
   -- as many bits as the table has entries
-  pub permuted-lt : (table : List ℕ) → permuted w table x < 2 ^ length table
+  pub permuted_lt : (table : List ℕ) → permuted w table x < 2 ^ length table
   unfolding permuted
-  permuted-lt [] = lit< tt
-  permuted-lt (i ∷ table) = rw (permuted-cons i table, pow-succ' 2 (length table)) (digits_lt (mod-lt _ (lit< tt)) (permuted-lt table))
+  permuted_lt [] = lit< tt
+  permuted_lt (i ∷ table) = rw (permuted_cons i table, pow-succ' 2 (length table)) (digits_lt (mod-lt _ (lit< tt)) (permuted_lt table))
 
   -- ---- the loop
 
-  permuted-snoc : (table : List ℕ) (i : ℕ) → permuted w table x * 2 + bit w x i ≡ permuted w (table ++ (i ∷ [])) x
+  permuted_snoc : (table : List ℕ) (i : ℕ) → permuted w table x * 2 + bit w x i ≡ permuted w (table ++ (i ∷ [])) x
   unfolding permuted
-  permuted-snoc [] i = omega arith
-  permuted-snoc (j ∷ table) i =
-      rw (permuted-cons j table, permuted-cons j (table ++ (i ∷ [])), length-append table (i ∷ []), add-one (length table), pow-suc 2 (length table), ← permuted-snoc table i)
+  permuted_snoc [] i = omega arith
+  permuted_snoc (j ∷ table) i =
+      rw (permuted_cons j table, permuted_cons j (table ++ (i ∷ [])), length-append table (i ∷ []), add-one (length table), pow-suc 2 (length table), ← permuted_snoc table i)
       (omega arith)
 
   pub one_more : (table : List ℕ) (k : ℕ) → k < length table
       → permuted w (take k table) x * 2 + bit w x (get_or table k 0) ≡ permuted w (take (k + 1) table) x
-  one_more table k h = rw (add-one k, take-suc table k 0 h) (permuted-snoc (take k table) _)
+  one_more table k h = rw (add-one k, take-suc table k 0 h) (permuted_snoc (take k table) _)
 
   -- below 64 bits there is room for one more in a word
   pub room : (table : List ℕ) (k : ℕ) → k < 64 → permuted w (take k table) x < 2 ^ 63
-  room table k h = lt_of_lt_of_le (permuted-lt (take k table)) (pow_mono {j = 63} (omega (arith, length-take k table)))
+  room table k h = lt_of_lt_of_le (permuted_lt (take k table)) (pow_mono {j = 63} (omega (arith, length-take k table)))

@@ -15,7 +15,7 @@ use Rattle.cipher.specs.Schedule.{rotated_left, keys_from, round_keys}
 use Rattle.cipher.specs.Tables.{permuted_choice1, permuted_choice2}
 use Rattle.cipher.proofs.Linear.{Linear, shr, low, shl, mask, sum, after, selection, agreeing, agree}
 use Rattle.cipher.proofs.Parity.{key_mask, masked_same}
-use Rattle.cipher.proofs.Permutation.{permuted-lt}
+use Rattle.cipher.proofs.Permutation.{permuted_lt}
 use Rattle.cipher.proofs.RoundKeys.{turn, turn_keeps, turn_lt, turn_rotates}
 
 -- where each bit of a key stands in the first two round keys, side by side; 0 for the low bit of a byte
@@ -63,7 +63,7 @@ turned_is : {f : ℕ → ℕ} (g : ℕ → ℕ) (key : ℕ) → ((x : ℕ) → f
 unfolding turned
 turned_is {f} g key b e =
     let x = permuted 64 permuted_choice1 key in
-    let h : x < 2 ^ 56 = permuted-lt 64 key permuted_choice1 in
+    let h : x < 2 ^ 56 = permuted_lt 64 key permuted_choice1 in
     ap (permuted 56 permuted_choice2)
     (xor_shifted (f (x / 2 ^ 28)) 28 (f (x % 2 ^ 28)) (b _) ∙ ap₂ (λ (c d : ℕ). c * 2 ^ 28 + d) (e (x / 2 ^ 28) (omega arith)) (e (x % 2 ^ 28) (omega arith)))
 

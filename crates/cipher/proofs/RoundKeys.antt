@@ -13,7 +13,7 @@ use Rattle.cipher.specs.Private.{in_range, seven, Windows, places, first_bits, s
 use Rattle.cipher.specs.Schedule.{rotated_left, keys_from, round_keys}
 use Rattle.cipher.specs.Tables.{left_shifts, permuted_choice1, permuted_choice2}
 use Rattle.cipher.proofs.Linear.{Linear, itself, shr, low, shl, mask, sum, after, selection, agreeing, agree, remaining}
-use Rattle.cipher.proofs.Permutation.{permuted-lt}
+use Rattle.cipher.proofs.Permutation.{permuted_lt}
 use Rattle.cipher.proofs.Range.{first, passed}
 use Rattle.cipher.proofs.Windows.{four, four_keeps, four_sum, seven_lt, seven_of, seven_keeps, seven_of_lem, chosen, window_chosen}
 
@@ -167,7 +167,7 @@ pub keys_from_windows : (key : ℕ) (words : List ℕ) → Windows (permuted 64 
 unfolding round_keys
 keys_from_windows key words w =
     let x = permuted 64 permuted_choice1 key in
-    let h : x < 2 ^ 56 = permuted-lt 64 key permuted_choice1 in
+    let h : x < 2 ^ 56 = permuted_lt 64 key permuted_choice1 in
     same_map (from_windows words) (key_at x) places tt (from_windows_lem x words h w)
     ∙ ap (map (key_at x)) (sym all_totals)
     ∙ sym (keys_assembled (λ y. y) itself (λ y hy. hy) 0 left_shifts all_assembled x h)

@@ -8,7 +8,7 @@ use lib.ListN.{length}
 use Rattle.lent.specs.Result.{Result, lend, Written}
 use Rattle.lent.specs.declared.answers.Answer.{Answer}
 use Rattle.lent.proofs.Laws.{cases}
-use Rattle.lent.proofs.Results.{Refuses, number_refuses, written-zero}
+use Rattle.lent.proofs.Results.{Refuses, number_refuses, written_zero}
 use Rattle.cleaning.specs.Counts.{Counted, WrittenText, where_done, refused_text, with_counts}
 use Rattle.cleaning.specs.declared.answers.TextAnswer.{TextAnswer}
 
@@ -28,7 +28,7 @@ written_text {answer} {raw} {before} {after} {a} {d} {s} h w k =
   where
     made : a.number ≡ 0 → WrittenText answer raw before (with_counts a d s) after
     made z =
-        let v = written-zero w z in
+        let v = written_zero w z in
         let lent : lend (length before) answer ≡ answer = rw (v.1, le-leb _ _ v.2) in
         rw (eq-eqb _ _ z) (record { written = w; counted = rw lent k })
 
@@ -46,5 +46,5 @@ written_text {answer} {raw} {before} {after} {a} {d} {s} h w k =
 pub text_counted : {answer raw : Result (List ℕ)} {before after : List ℕ} {r : TextAnswer}
     → WrittenText answer raw before r after → r.number ≡ 0 → Counted raw r.dropped r.spaces
 text_counted w z =
-    let k = written-zero w.written z in
+    let k = written_zero w.written z in
     rw (k.1, le-leb _ _ k.2) at w.counted

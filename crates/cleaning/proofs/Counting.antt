@@ -44,17 +44,17 @@ module _ (x : ℕ) (s : List ℕ) where
   unfolding dropped_from
   none_dropped k = simp (stays_kept x ∙ k)
 
-  pub one-dropped : kept (capitalized x) ≡ false → dropped_from (x ∷ s) ≡ 1 + dropped_from s
+  pub one_dropped : kept (capitalized x) ≡ false → dropped_from (x ∷ s) ≡ 1 + dropped_from s
   unfolding dropped_from
-  one-dropped k = simp (stays_kept x ∙ k) (omega arith)
+  one_dropped k = simp (stays_kept x ∙ k) (omega arith)
 
-  one-space : eqb (capitalized x) 32 ≡ true → spaces_in (x ∷ s) ≡ 1 + spaces_in s
+  one_space : eqb (capitalized x) 32 ≡ true → spaces_in (x ∷ s) ≡ 1 + spaces_in s
   unfolding spaces_in
-  one-space e = simp (space_alone x ∙ e) (omega arith)
+  one_space e = simp (space_alone x ∙ e) (omega arith)
 
-  no-space : eqb (capitalized x) 32 ≡ false → spaces_in (x ∷ s) ≡ spaces_in s
+  no_space : eqb (capitalized x) 32 ≡ false → spaces_in (x ∷ s) ≡ spaces_in s
   unfolding spaces_in
-  no-space n = simp (space_alone x ∙ n)
+  no_space n = simp (space_alone x ∙ n)
 
 -- spaces, and a character that is none, before a text
 owed_spaces : (owed y : ℕ) (s : List ℕ) → eqb y 32 ≡ false → spaces_in (replicate owed 32 ++ y ∷ s) ≡ owed + spaces_in s
@@ -73,15 +73,15 @@ balance (x ∷ s) started owed h =
     cases (eqb y 32)
     (λ e.
     let b = balance s started started h in
-    simp e (omega (arith, b.0, b.1, one-space x s e, none_dropped x s (space_kept y e))))
+    simp e (omega (arith, b.0, b.1, one_space x s e, none_dropped x s (space_kept y e))))
     (λ n.
     cases (kept y)
     (λ k.
     let b = balance s 1 0 (omega arith) in
-    simp (n, k, length-append, length-replicate) (omega (arith, b.0, b.1, no-space x s n, none_dropped x s k, owed_spaces owed y (pass 1 0 s) n)))
+    simp (n, k, length-append, length-replicate) (omega (arith, b.0, b.1, no_space x s n, none_dropped x s k, owed_spaces owed y (pass 1 0 s) n)))
     (λ k.
     let b = balance s started owed h in
-    simp (n, k) (omega (arith, b.0, b.1, no-space x s n, one-dropped x s k))))
+    simp (n, k) (omega (arith, b.0, b.1, no_space x s n, one_dropped x s k))))
 
 -- a cleaned text has no more spaces than the text, so that the spaces that go out are their difference
 pub no_more_spaces : (s : List ℕ) → spaces_in (cleaned s) ≤ spaces_in s

@@ -44,20 +44,20 @@ cleaned_again s = simp cleaned_pass (again s 0 0 (omega arith) (omega arith))
 pub cleaned_short : (s : List ℕ) → length (cleaned s) ≤ length s
 cleaned_short s = omega (arith, sizes s)
 
-module _ (x : ℕ) (s : List ℕ) (no-space : capitalized x ≡ 32 → ⊥) (stays : kept (capitalized x) ≡ true) where
-  pass-some : (p : List ℕ) (started owed : ℕ) → 0 < length (pass started owed (p ++ x ∷ s))
+module _ (x : ℕ) (s : List ℕ) (no_space : capitalized x ≡ 32 → ⊥) (stays : kept (capitalized x) ≡ true) where
+  pass_some : (p : List ℕ) (started owed : ℕ) → 0 < length (pass started owed (p ++ x ∷ s))
   unfolding pass
-  pass-some [] started owed = rw (pass_kept x s started owed no-space stays, length-append) (omega arith)
-  pass-some (y ∷ p) started owed =
-      cases (eqb (capitalized y) 32) (λ e. simp e (pass-some p started started))
+  pass_some [] started owed = rw (pass_kept x s started owed no_space stays, length-append) (omega arith)
+  pass_some (y ∷ p) started owed =
+      cases (eqb (capitalized y) 32) (λ e. simp e (pass_some p started started))
       (λ n.
       cases (kept (capitalized y))
       (λ k. simp (n, k, length-append) (omega arith))
-      (λ k. simp (n, k) (pass-some p started owed)))
+      (λ k. simp (n, k) (pass_some p started owed)))
 
   -- a text with a character that stays and is no space has a cleaned text that is not empty
-  cleaned-some : (p : List ℕ) → 0 < length (cleaned (p ++ x ∷ s))
-  cleaned-some p = rw cleaned_pass (pass-some p 0 0)
+  cleaned_some : (p : List ℕ) → 0 < length (cleaned (p ++ x ∷ s))
+  cleaned_some p = rw cleaned_pass (pass_some p 0 0)
 
 -- so has a text with a digit
 pub cleaned_digit : (x : ℕ) (s p : List ℕ) → digit x ≡ true → 0 < length (cleaned (p ++ x ∷ s))
@@ -65,7 +65,7 @@ unfolding capitalized kept
 cleaned_digit x s p d =
     let h = between_true 48 57 x d in
     let same : capitalized x ≡ x = simp (lt-leb 97 x (omega arith)) in
-    cleaned-some x s (λ z. omega arith) (rw same (simp (lt-leb 65 x (omega arith), d))) p
+    cleaned_some x s (λ z. omega arith) (rw same (simp (lt-leb 65 x (omega arith), d))) p
 
 -- a text of at most 1,024 bytes is cleaned
 pub clean_done : (s : List ℕ) → length s ≤ 1024 → clean_text s ≡ done (cleaned s)

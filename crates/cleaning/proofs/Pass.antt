@@ -87,30 +87,30 @@ two_spaces (x ∷ s) = double (unless_double x (closed_up s))
 mutual
   unfolding spacing closed_up without_end
 
-  none-owed : (s : List ℕ) → spacing 1 0 s ≡ closed_up (without_end s)
-  none-owed [] = refl
-  none-owed (x ∷ s) =
+  none_owed : (s : List ℕ) → spacing 1 0 s ≡ closed_up (without_end s)
+  none_owed [] = refl
+  none_owed (x ∷ s) =
       cases (eqb x 32)
-      (λ e. simp e (one-owed s ∙ ap (λ (y : ℕ). closed_up (unless_last y (without_end s))) (sym (eqb-true x 32 e))))
-      (λ n. simp (n, last_stays x (without_end s) n, single_stays x (closed_up (without_end s)) n, none-owed s))
+      (λ e. simp e (one_owed s ∙ ap (λ (y : ℕ). closed_up (unless_last y (without_end s))) (sym (eqb-true x 32 e))))
+      (λ n. simp (n, last_stays x (without_end s) n, single_stays x (closed_up (without_end s)) n, none_owed s))
 
-  one-owed : (s : List ℕ) → spacing 1 1 s ≡ closed_up (without_end (32 ∷ s))
-  one-owed [] = refl
-  one-owed (x ∷ s) =
+  one_owed : (s : List ℕ) → spacing 1 1 s ≡ closed_up (without_end (32 ∷ s))
+  one_owed [] = refl
+  one_owed (x ∷ s) =
       cases (eqb x 32)
       (λ e.
       simp e
-      (one-owed s
+      (one_owed s
       ∙ sym (two_spaces (without_end s))
       ∙ ap (λ (y : ℕ). closed_up (unless_last 32 (unless_last y (without_end s)))) (sym (eqb-true x 32 e))))
-      (λ n. simp (n, last_stays x (without_end s) n, single_stays x (closed_up (without_end s)) n, none-owed s))
+      (λ n. simp (n, last_stays x (without_end s) n, single_stays x (closed_up (without_end s)) n, none_owed s))
 
 from_start : (s : List ℕ) → spacing 0 0 s ≡ closed_up (without_end (trimmed_start s))
 unfolding spacing trimmed_start closed_up without_end
 from_start [] = refl
 from_start (x ∷ s) =
     cases (eqb x 32) (λ e. simp e (from_start s))
-    (λ n. simp (n, last_stays x (without_end s) n, single_stays x (closed_up (without_end s)) n, none-owed s))
+    (λ n. simp (n, last_stays x (without_end s) n, single_stays x (closed_up (without_end s)) n, none_owed s))
 
 -- the pass does the four steps
 pub cleaned_pass : (s : List ℕ) → cleaned s ≡ pass 0 0 s
@@ -124,16 +124,16 @@ pub pass_space : (x : ℕ) (s : List ℕ) (started owed : ℕ) → capitalized x
 unfolding pass
 pass_space x s started owed e = simp (eq-eqb _ _ e)
 
-module _ (x : ℕ) (s : List ℕ) (started owed : ℕ) (no-space : capitalized x ≡ 32 → ⊥) where
+module _ (x : ℕ) (s : List ℕ) (started owed : ℕ) (no_space : capitalized x ≡ 32 → ⊥) where
   -- a turn at another character that stays
   pub pass_kept : kept (capitalized x) ≡ true → pass started owed (x ∷ s) ≡ replicate owed 32 ++ capitalized x ∷ pass 1 0 s
   unfolding pass
-  pass_kept k = simp (ne_eqb _ _ no-space, k)
+  pass_kept k = simp (ne_eqb _ _ no_space, k)
 
   -- a turn at a character that goes
-  pub pass-dropped : kept (capitalized x) ≡ false → pass started owed (x ∷ s) ≡ pass started owed s
+  pub pass_dropped : kept (capitalized x) ≡ false → pass started owed (x ∷ s) ≡ pass started owed s
   unfolding pass
-  pass-dropped k = simp (ne_eqb _ _ no-space, k)
+  pass_dropped k = simp (ne_eqb _ _ no_space, k)
 
 pushed : (w old : List ℕ) (y : ℕ) → length w < length old → set (over w old) (length w) y ≡ over (w ++ (y ∷ [])) old
 pushed w old y h =

@@ -23,13 +23,13 @@ uncounted {answer} e h w = rw e (written_text h w (nothing answer))
 -- the entries before and after those that clean a text
 module _ (answer : Result (List ℕ)) (a b : List ℕ) {before after : List ℕ} {n : Answer} {r : TextAnswer} (h : r ≡ with_counts n 0 0)
     (w : Written answer before n.number n.length after) where
-  pub before-texts : (place : ℕ) → place < 3 → WrittenText answer (text_at place a b) before r after
+  pub before_texts : (place : ℕ) → place < 3 → WrittenText answer (text_at place a b) before r after
   unfolding text_at texts
-  before-texts zero l = uncounted refl h w
-  before-texts (suc zero) l = uncounted refl h w
-  before-texts (suc (suc zero)) l = uncounted refl h w
-  before-texts (suc (suc (suc place))) l = absurd (omega arith)
+  before_texts zero l = uncounted refl h w
+  before_texts (suc zero) l = uncounted refl h w
+  before_texts (suc (suc zero)) l = uncounted refl h w
+  before_texts (suc (suc (suc place))) l = absurd (omega arith)
 
-  pub after-texts : (place : ℕ) → 7 ≤ place → WrittenText answer (text_at place a b) before r after
+  pub after_texts : (place : ℕ) → 7 ≤ place → WrittenText answer (text_at place a b) before r after
   unfolding text_at texts
-  after-texts place l = uncounted (get_or-eq_default (texts a b) (done []) l) h w
+  after_texts place l = uncounted (get_or-eq_default (texts a b) (done []) l) h w

@@ -11,10 +11,10 @@ use Rattle.pinblock.specs.Entries as Pin
 use Rattle.password.specs.Password
 use Rattle.vip.specs.Vip
 use Rattle.card.specs.Entries as Card
-use Rattle.registers.specs.Host.{initialKey, hostKey}
+use Rattle.registers.specs.Host.{initial_key, host_key}
 use Rattle.host.specs.SingleLength.{single_length}
 use Rattle.doublehost.specs.DoubleLength.{double_length}
-use Rattle.recordbytes.specs.Calls.{loadedBytes}
+use Rattle.recordbytes.specs.Calls.{loaded_bytes}
 use Rattle.meanings.specs.Meanings.{meaning}
 
 -- The answers of the table's entries, in its order, from the inputs a, b and c and the number x. (A sequence is below 2 to the power 32 and a
@@ -47,12 +47,12 @@ answers a b c x =
     ∷ Card.session_key a (x % 65536)
     ∷ Card.arqc a b
     ∷ Card.arpc a b c
-    ∷ initialKey single_length a b
-    ∷ hostKey single_length a b
-    ∷ loadedBytes single_length a b
-    ∷ initialKey double_length a b
-    ∷ hostKey double_length a b
-    ∷ loadedBytes double_length a b
+    ∷ initial_key single_length a b
+    ∷ host_key single_length a b
+    ∷ loaded_bytes single_length a b
+    ∷ initial_key double_length a b
+    ∷ host_key double_length a b
+    ∷ loaded_bytes double_length a b
     ∷ meaning (x % 4294967296)
     ∷ []
 

@@ -10,7 +10,7 @@ use lib.Dec.{lit<}
 use lib.ListN.{length, take, drop, length-append, length-drop}
 use lib.Seq.{take-add, drop_at}
 use Rattle.lent.specs.Words.{left, right, word, word_bytes}
-use Rattle.lent.proofs.Bases.{Digits, digits-drop, to_length, from-lt}
+use Rattle.lent.proofs.Bases.{Digits, digits_drop, to_length, from_lt}
 use Rattle.lent.proofs.Parts.{word_read, word_reread}
 use Rattle.cipher.proofs.Laws.{triple_encrypted_lt}
 use Rattle.registers.proofs.Laws.{ReadBack, Lawful}
@@ -45,7 +45,7 @@ masked_right key h = xor_lt 64 key.right mask h (lit< tt)
 -- the bytes of the key that bytes start with
 reread : (s : List ℕ) → Digits 256 s → 16 ≤ length s → key_bytes (key_of s) ≡ take 16 s
 reread s d h =
-    ap₂ (λ (a b : List ℕ). a ++ b) (word_reread s d (omega arith)) (word_reread (drop 8 s) (digits-drop 256 8 s d) (rw length-drop (omega arith)))
+    ap₂ (λ (a b : List ℕ). a ++ b) (word_reread s d (omega arith)) (word_reread (drop 8 s) (digits_drop 256 8 s d) (rw length-drop (omega arith)))
     ∙ sym (take-add 8 8 s)
 
 -- the left half of the initial key is the initial key of a single-length terminal
@@ -58,8 +58,8 @@ unfolding one_way initial_pair
 lawful = record {
   sized = λ key. rw (length-append, to_length 256 8 key.left, to_length 256 8 key.right);
   empty_back = back (lit< tt) (lit< tt);
-  initial-back = λ derivation head. back (triple_encrypted_lt _ _ head) (triple_encrypted_lt _ _ head);
+  initial_back = λ derivation head. back (triple_encrypted_lt _ _ head) (triple_encrypted_lt _ _ head);
   step_back = λ key x b. let h = right_below key b in back (step_lt _ _ x (masked_right key h)) (step_lt _ _ x h);
-  read_back = λ s d. back (from-lt 256 8 s d) (from-lt 256 8 (drop 8 s) (digits-drop 256 8 s d));
+  read_back = λ s d. back (from_lt 256 8 s d) (from_lt 256 8 (drop 8 s) (digits_drop 256 8 s d));
   bytes_back = reread;
 }

@@ -1,7 +1,7 @@
 // The host's two derivations: the initial key of a terminal, and its key for the counter in a serial number.
 ghost use Rattle.std.specs.Prelude.{◌≡◌};
 ghost use Rattle.lent.specs.Result.{Answered};
-ghost use Rattle.registers.specs.Host.{initialOf, initialKey, hostKey};
+ghost use Rattle.registers.specs.Host.{initial_of, initial_key, host_key};
 ghost use Rattle.doublehost.specs.DoubleLength.{tripled, double_length};
 
 use crate::derivation::{given_out, masked, register_key};
@@ -16,7 +16,7 @@ fn tripled(key: DoubleKey, block: u64) -> u64
 
 // The two halves of the initial key.
 fn initial_pair(derivation_key: &[u8], serial_number: &[u8]) -> DoubleKey
-    ensures { result ≡ initialOf double_length derivation_key.now serial_number.now }
+    ensures { result ≡ initial_of double_length derivation_key.now serial_number.now }
 {
     let key = key_of(derivation_key);
     let masked_key = masked(key);
@@ -30,7 +30,7 @@ fn initial_pair(derivation_key: &[u8], serial_number: &[u8]) -> DoubleKey
 // The initial key of the terminal with that serial number. Refuses with 6 if the derivation key does not have 16 bytes or the serial number 10,
 // 9 if the halves of the derivation key agree without the low bit of each byte.
 pub fn initial_key(derivation_key: &[u8], serial_number: &[u8]) -> lent::DoubleBlock
-    ensures { Answered 16 (initialKey double_length derivation_key.now serial_number.now) result.number result.value }
+    ensures { Answered 16 (initial_key double_length derivation_key.now serial_number.now) result.number result.value }
 {
     let number = registers::derivable(derivation_key, serial_number);
     if number != lent::DONE {
@@ -43,7 +43,7 @@ pub fn initial_key(derivation_key: &[u8], serial_number: &[u8]) -> lent::DoubleB
 // The key that the terminal gives out with the counter in the serial number. Refuses with 6 and 9 as for the initial key, 10 if the counter is 0
 // or has more than ten one bits.
 pub fn host_key(derivation_key: &[u8], serial_number: &[u8]) -> lent::DoubleBlock
-    ensures { Answered 16 (hostKey double_length derivation_key.now serial_number.now) result.number result.value }
+    ensures { Answered 16 (host_key double_length derivation_key.now serial_number.now) result.number result.value }
 {
     let number = registers::derivable(derivation_key, serial_number);
     if number != lent::DONE {

@@ -2,7 +2,7 @@
 use mathlib.Core.Path.{◌≡◌, ap}
 use Rattle.registers.specs.Machine.{State, position_of}
 use Rattle.registers.specs.Demand.{Demand3}
-use Rattle.registers.specs.Records.{byRecord}
+use Rattle.registers.specs.Records.{by_record}
 use Rattle.registers.proofs.Laws as registers
 use Rattle.doublehost.specs.declared.keys.DoubleKey.{DoubleKey}
 use Rattle.doublehost.specs.DoubleLength.{double_length}
@@ -10,7 +10,7 @@ use Rattle.doublehost.proofs.Laws.{lawful}
 use Rattle.doubleterminal.specs.View.{view}
 use Rattle.doubleterminal.specs.declared.state.Terminal.{Terminal}
 
-pub demand3 : Demand3 double_length (byRecord double_length)
+pub demand3 : Demand3 double_length (by_record double_length)
 demand3 = registers.demand3 double_length lawful
 
 -- records with the same state are the same

@@ -1,7 +1,7 @@
 // The terminal's call for its next key.
 ghost use Rattle.std.specs.Prelude.{◌≡◌, replicate};
 ghost use Rattle.registers.specs.Counters.{Permitted};
-ghost use Rattle.registers.specs.Machine.{readyKey, spent};
+ghost use Rattle.registers.specs.Machine.{ready_key, spent};
 ghost use Rattle.registers.specs.Calls.{Next};
 ghost use Rattle.doublehost.specs.DoubleLength.{double_length};
 ghost use Rattle.doubleterminal.specs.View.{view};
@@ -35,7 +35,7 @@ fn refused(number: u32, t: Terminal) -> NextKey
 // The key of the next counter: it stands in the register of the counter's lowest one bit.
 fn ready_key(t: Terminal) -> DoubleKey
     requires { Permitted t.position.counter }
-    ensures { result ≡ readyKey double_length (view t) }
+    ensures { result ≡ ready_key double_length (view t) }
 {
     let l = registers::lowest_place(t.position.counter);
     t.keys[l]

@@ -2,8 +2,8 @@
 use Rattle.registers.specs.Demand.{Demand3}
 use Rattle.doublehost.specs.DoubleLength.{double_length}
 use Rattle.doublehost.proofs.Laws.{lawful}
-use Rattle.recordbytes.specs.Records.{byBytes}
-use Rattle.recordbytes.proofs.Theorem.{bytes-demand3}
+use Rattle.recordbytes.specs.Records.{by_bytes}
+use Rattle.recordbytes.proofs.Theorem.{bytes_demand3}
 
-pub demand3 : Demand3 double_length (byBytes double_length)
-demand3 = bytes-demand3 double_length lawful
+pub demand3 : Demand3 double_length (by_bytes double_length)
+demand3 = bytes_demand3 double_length lawful

@@ -3,7 +3,7 @@ ghost use Rattle.std.specs.Prelude.{◌≡◌, length};
 ghost use Rattle.lent.specs.Private.{Appends};
 ghost use Rattle.doublehost.specs.DoubleLength.{double_length};
 ghost use Rattle.doubleterminal.specs.View.{view};
-ghost use Rattle.recordbytes.specs.RecordBytes.{recordSize, recordBytes, registerBytes, registersOf, state_of};
+ghost use Rattle.recordbytes.specs.RecordBytes.{record_size, record_bytes, register_bytes, registers_of, state_of};
 
 use doublehost::DoubleKey;
 use doubleterminal::Terminal;
@@ -12,7 +12,7 @@ use doubleterminal::Terminal;
 
 // Writes the registers, 16 bytes each.
 fn put_registers(keys: [DoubleKey; 21], bytes: &mut [u8]) -> usize
-    ensures { Appends (registerBytes double_length keys) bytes.old bytes.new 0 result }
+    ensures { Appends (register_bytes double_length keys) bytes.old bytes.new 0 result }
 {
     let mut n: usize = 0;
     let mut i: usize = 0;
@@ -28,8 +28,8 @@ fn put_registers(keys: [DoubleKey; 21], bytes: &mut [u8]) -> usize
 
 // Writes a record.
 pub(crate) fn put_record(t: Terminal, bytes: &mut [u8])
-    requires { length bytes.old ≡ recordSize double_length }
-    ensures { bytes.new ≡ recordBytes double_length (view t) }
+    requires { length bytes.old ≡ record_size double_length }
+    ensures { bytes.new ≡ record_bytes double_length (view t) }
 {
     let keys = t.keys;
     let serial = t.serial;
@@ -42,7 +42,7 @@ pub(crate) fn put_record(t: Terminal, bytes: &mut [u8])
 // The registers, 16 bytes each.
 fn registers_of(bytes: &[u8]) -> [DoubleKey; 21]
     requires { length bytes.now ≡ 336 }
-    ensures { result ≡ registersOf double_length 21 bytes.now }
+    ensures { result ≡ registers_of double_length 21 bytes.now }
 {
     let mut keys = [doublehost::no_key(); 21];
     let mut i: usize = 0;
@@ -59,7 +59,7 @@ fn registers_of(bytes: &[u8]) -> [DoubleKey; 21]
 
 // Reads a record.
 pub(crate) fn terminal_of(bytes: &[u8]) -> Terminal
-    requires { length bytes.now ≡ recordSize double_length }
+    requires { length bytes.now ≡ record_size double_length }
     ensures { view result ≡ state_of double_length bytes.now }
 {
     let keys = registers_of(&bytes[..336]);

@@ -7,7 +7,7 @@ use native.Mathlib.Omega.{arith}
 use lib.Bits.{xor_lt}
 use lib.Dec.{lit<}
 use Rattle.lent.specs.Words.{left, right}
-use Rattle.lent.proofs.Bases.{to_length, from-lt}
+use Rattle.lent.proofs.Bases.{to_length, from_lt}
 use Rattle.lent.proofs.Parts.{word_read, word_reread}
 use Rattle.cipher.proofs.Laws.{encrypted_lt, triple_encrypted_lt}
 use Rattle.registers.proofs.Laws.{ReadBack, Lawful}
@@ -30,8 +30,8 @@ unfolding one_way initial_word
 lawful = record {
   sized = to_length 256 8;
   empty_back = back (lit< tt);
-  initial-back = λ derivation head. back (triple_encrypted_lt (left derivation) (right derivation) head);
+  initial_back = λ derivation head. back (triple_encrypted_lt (left derivation) (right derivation) head);
   step_back = λ key x b. back (step_lt key key x (below key b));
-  read_back = λ s digits. back (from-lt 256 8 s digits);
+  read_back = λ s digits. back (from_lt 256 8 s digits);
   bytes_back = word_reread;
 }

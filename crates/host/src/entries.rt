@@ -1,14 +1,14 @@
 // The host's two derivations: the initial key of a terminal, and its key for the counter in a serial number.
 ghost use Rattle.std.specs.Prelude.{◌≡◌};
 ghost use Rattle.lent.specs.Result.{Answered};
-ghost use Rattle.registers.specs.Host.{initialOf, initialKey, hostKey};
+ghost use Rattle.registers.specs.Host.{initial_of, initial_key, host_key};
 ghost use Rattle.host.specs.SingleLength.{single_length};
 
 use crate::derivation::{given_out, register_key};
 
 // The initial key's word.
 fn initial_word(derivation_key: &[u8], serial_number: &[u8]) -> u64
-    ensures { result ≡ initialOf single_length derivation_key.now serial_number.now }
+    ensures { result ≡ initial_of single_length derivation_key.now serial_number.now }
 {
     cipher::triple_encrypt(
         lent::word_of(derivation_key),
@@ -20,7 +20,7 @@ fn initial_word(derivation_key: &[u8], serial_number: &[u8]) -> u64
 // The initial key of the terminal with that serial number. Refuses with 6 if the derivation key does not have 16 bytes or the serial number 10,
 // 9 if the halves of the derivation key agree without the low bit of each byte.
 pub fn initial_key(derivation_key: &[u8], serial_number: &[u8]) -> lent::Block
-    ensures { Answered 8 (initialKey single_length derivation_key.now serial_number.now) result.number result.value }
+    ensures { Answered 8 (initial_key single_length derivation_key.now serial_number.now) result.number result.value }
 {
     let number = registers::derivable(derivation_key, serial_number);
     if number != lent::DONE {
@@ -32,7 +32,7 @@ pub fn initial_key(derivation_key: &[u8], serial_number: &[u8]) -> lent::Block
 // The key that the terminal gives out with the counter in the serial number. Refuses with 6 and 9 as for the initial key, 10 if the counter is 0
 // or has more than ten one bits.
 pub fn host_key(derivation_key: &[u8], serial_number: &[u8]) -> lent::Block
-    ensures { Answered 8 (hostKey single_length derivation_key.now serial_number.now) result.number result.value }
+    ensures { Answered 8 (host_key single_length derivation_key.now serial_number.now) result.number result.value }
 {
     let number = registers::derivable(derivation_key, serial_number);
     if number != lent::DONE {

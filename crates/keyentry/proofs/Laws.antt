@@ -9,18 +9,18 @@ use Rattle.lent.specs.Choice.{all}
 use Rattle.lent.specs.Characters.{capitalized}
 use Rattle.lent.specs.Result.{done}
 use Rattle.lent.specs.Words.{byte}
-use Rattle.lent.proofs.Results.{same-done}
+use Rattle.lent.proofs.Results.{same_done}
 use Rattle.keyentry.specs.Hexadecimal.{text_of}
 use Rattle.keyentry.specs.KeyEntry.{key_size, key_entry}
 use Rattle.keyentry.specs.declared.units.Bytes.{Bytes}
 use Rattle.keyentry.proofs.Sizes.{passes, entered}
-use Rattle.keyentry.proofs.Texts.{text_read, text-made, text_length, bytes_length}
+use Rattle.keyentry.proofs.Texts.{text_read, text_made, text_length, bytes_length}
 
 -- the hexadecimal text of a key, in capitals (65) or in small letters (97), gives the key back
 pub text_entered : (letter : ℕ) → (letter ≡ 65) ⊎ (letter ≡ 97) → (key : List ℕ) (wanted : Bytes)
     → all byte key ≡ true → length key ≡ wanted.0 → key_size wanted ≡ true → key_entry (text_of letter key) wanted ≡ done key
 text_entered letter case key wanted b n s =
-    let h = text-made letter case key b in
+    let h = text_made letter case key b in
     entered (text_of letter key) wanted s (text_length letter key ∙ ap (λ (m : ℕ). 2 * m) n) h.0
     ∙ ap done h.1
 
@@ -33,7 +33,7 @@ pub record EnteredText (text key : List ℕ) (wanted : Bytes) : Type 0 where
 pub entered_text : (text key : List ℕ) (wanted : Bytes) → key_entry text wanted ≡ done key → EnteredText text key wanted
 entered_text text key wanted e =
     let h = passes text wanted e in
-    let same = same-done h.3 in
+    let same = same_done h.3 in
     record {
       size = h.0;
       count = ap length (sym same) ∙ bytes_length text wanted.0 h.1;

@@ -11,7 +11,7 @@ use Rattle.lent.specs.Choice.{all}
 use Rattle.lent.specs.Characters.{hexadecimal}
 use Rattle.lent.specs.Refusals.{size, character}
 use Rattle.lent.specs.Result.{done, require}
-use Rattle.lent.proofs.Results.{require-done}
+use Rattle.lent.proofs.Results.{require_done}
 use Rattle.keyentry.specs.Hexadecimal.{bytes_of}
 use Rattle.keyentry.specs.KeyEntry.{text_bytes, key_size, full_text, key_entry}
 use Rattle.keyentry.specs.declared.units.Bytes.{Bytes}
@@ -25,8 +25,8 @@ module _ (text : List ℕ) where
   pub decodes : {key : List ℕ} → text_bytes text ≡ done key → (all hexadecimal text ≡ true) × (done (bytes_of text) ≡ done key)
   unfolding text_bytes
   decodes {key} e =
-      require-done (all hexadecimal text) character (done (bytes_of text)) key
-      (require-done (eqb (length text % 2) 0) size (require (all hexadecimal text) character (done (bytes_of text))) key e).1
+      require_done (all hexadecimal text) character (done (bytes_of text)) key
+      (require_done (eqb (length text % 2) 0) size (require (all hexadecimal text) character (done (bytes_of text))) key e).1
 
 module _ (text : List ℕ) (wanted : Bytes) where
   pub entered : key_size wanted ≡ true → length text ≡ 2 * wanted.0 → all hexadecimal text ≡ true → key_entry text wanted ≡ done (bytes_of text)
@@ -38,7 +38,7 @@ module _ (text : List ℕ) (wanted : Bytes) where
       → (key_size wanted ≡ true) × (length text ≡ 2 * wanted.0) × (all hexadecimal text ≡ true) × (done (bytes_of text) ≡ done key)
   unfolding key_entry
   passes {key} e =
-      let s = require-done (key_size wanted) size (require (full_text text wanted) size (text_bytes text)) key e in
-      let f = require-done (full_text text wanted) size (text_bytes text) key s.1 in
+      let s = require_done (key_size wanted) size (require (full_text text wanted) size (text_bytes text)) key e in
+      let f = require_done (full_text text wanted) size (text_bytes text) key s.1 in
       let d = decodes text f.1 in
       (s.0, eqb-true _ _ f.0, d.0, d.1)

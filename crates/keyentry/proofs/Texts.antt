@@ -93,15 +93,15 @@ bytes_below (x ∷ y ∷ s) h =
 
 module _ (letter : ℕ) (case : (letter ≡ 65) ⊎ (letter ≡ 97)) where
   -- the text of bytes is hexadecimal, and gives the bytes back
-  pub text-made : (key : List ℕ) → all byte key ≡ true → (all hexadecimal (text_of letter key) ≡ true) × (bytes_of (text_of letter key) ≡ key)
+  pub text_made : (key : List ℕ) → all byte key ≡ true → (all hexadecimal (text_of letter key) ≡ true) × (bytes_of (text_of letter key) ≡ key)
   unfolding bytes_of text_of
-  text-made [] b = (refl, refl)
-  text-made (x ∷ s) b =
+  text_made [] b = (refl, refl)
+  text_made (x ∷ s) b =
       let hx = both_true (byte x) (all byte s) b in
       let below = ltb-true x 256 hx.0 in
       let high = digit_made letter case (x / 16) (omega arith) in
       let low = digit_made letter case (x % 16) (mod-lt x (lit< tt)) in
-      let rest = text-made s hx.1 in
+      let rest = text_made s hx.1 in
       (rw (high.0, low.0) rest.0, rw (high.1, low.1, rest.1, div-add-mod' x 16))
 
 -- two digits for each byte

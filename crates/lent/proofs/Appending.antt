@@ -31,15 +31,15 @@ module _ (v s : List ℕ) (n : ℕ) where
     front : length (take n s ++ v) ≡ n + length v
     front = front_length (omega arith)
 
-    with-room : lend (length s) (appending v s n) ≡ done (take n s ++ v)
-    with-room = simp (le-leb n (length s) (omega arith), le-leb (length (take n s ++ v)) (length s) (rw front room))
+    with_room : lend (length s) (appending v s n) ≡ done (take n s ++ v)
+    with_room = simp (le-leb n (length s) (omega arith), le-leb (length (take n s ++ v)) (length s) (rw front room))
 
     -- where there is room, the value is appended, and what appends it keeps the promise of `append`
     pub appended : {after : List ℕ} {num len : ℕ} → Written (appending v s n) s num len after → Appended v s after n len
-    appended w = record { end = rw with-room at w.value ∙ front; memory = rw with-room at w.memory ∙ rw front }
+    appended w = record { end = rw with_room at w.value ∙ front; memory = rw with_room at w.memory ∙ rw front }
 
-    pub written-appended : {after : List ℕ} {r : ℕ} → Appended v s after n r → Written (appending v s n) s 0 r after
-    written-appended a = record { number = rw with-room; value = rw (with-room, front) a.end; memory = rw (with-room, front) a.memory }
+    pub written_appended : {after : List ℕ} {r : ℕ} → Appended v s after n r → Written (appending v s n) s 0 r after
+    written_appended a = record { number = rw with_room; value = rw (with_room, front) a.end; memory = rw (with_room, front) a.memory }
 
 -- a value that is copied to the start of what stands after the first n bytes
 pub copied_after : (v s : List ℕ) (n : ℕ) → n + length v ≤ length s
@@ -51,21 +51,21 @@ copied_after v s n room =
 -- Where there is room for it.
 module _ {value before after : List ℕ} {n r : ℕ} (a : Appended value before after n r) (room : n + length value ≤ length before) where
   -- the first bytes are now those that stood there, and the value
-  pub appended-front : take r after ≡ take n before ++ value
-  appended-front =
+  pub appended_front : take r after ≡ take n before ++ value
+  appended_front =
       rw (a.end, a.memory)
       (take_at (take n before ++ value) (drop (n + length value) before) (n + length value) (front_length value before n (omega arith)))
 
   -- what stands after the value is as it was
-  appended-after : (k : ℕ) → drop (r + k) after ≡ drop (r + k) before
-  appended-after k =
+  appended_after : (k : ℕ) → drop (r + k) after ≡ drop (r + k) before
+  appended_after k =
       rw (a.end, a.memory, ← front_length value before n (omega arith))
       (drop-append-add (take n before ++ value) (drop (length (take n before ++ value)) before) k
       ∙ drop-drop k (length (take n before ++ value)) before)
 
   -- there are as many bytes as before
-  pub appended-length : length after ≡ length before
-  appended-length = rw a.memory (simp (length-append, length-drop, length-take-le n before (omega arith)) (omega arith))
+  pub appended_length : length after ≡ length before
+  appended_length = rw a.memory (simp (length-append, length-drop, length-take-le n before (omega arith)) (omega arith))
 
 -- nothing is appended
 pub nothing_appended : {s : List ℕ} {n : ℕ} → Appended [] s s n n
@@ -77,11 +77,11 @@ both_appended : {v w a b c : List ℕ} {n k r : ℕ} → n + length (v ++ w) ≤
 both_appended {v = v} {w = w} {a = a} {b = b} {n = n} {k = k} room p q =
     let long = length-append v w in
     let first : n + length v ≤ length a = omega arith in
-    let second : k + length w ≤ length b = omega (arith, appended-length p first, p.end) in
+    let second : k + length w ≤ length b = omega (arith, appended_length p first, p.end) in
     let end : k + length w ≡ n + length (v ++ w) = omega (arith, p.end) in
     record {
       end = q.end ∙ end;
-      memory = q.memory ∙ rw (appended-front p first, appended-after p first (length w), end, append_assoc (take n a) v w);
+      memory = q.memory ∙ rw (appended_front p first, appended_after p first (length w), end, append_assoc (take n a) v w);
     }
 
 pub both_appends : {v w a b c : List ℕ} {n k r : ℕ} → Appends v a b n k → Appends w b c k r → Appends (v ++ w) a c n r
@@ -89,5 +89,5 @@ both_appends {v = v} {w = w} {a = a} {b = b} {n = n} {k = k} p q room =
     let long = length-append v w in
     let first : n + length v ≤ length a = omega arith in
     let d = p first in
-    let second : k + length w ≤ length b = omega (arith, appended-length d first, d.end) in
+    let second : k + length w ≤ length b = omega (arith, appended_length d first, d.end) in
     both_appended room d (q second)

@@ -34,44 +34,44 @@ module _ (b : ℕ) where
   Digits s = (k : ℕ) → get_or s k 0 < b
 
   -- so is each after the first k
-  pub digits-drop : (k : ℕ) (s : List ℕ) → Digits s → Digits (drop k s)
-  digits-drop k s d i = rw (get_or-drop k s i 0) (d (k + i))
+  pub digits_drop : (k : ℕ) (s : List ℕ) → Digits s → Digits (drop k s)
+  digits_drop k s d i = rw (get_or-drop k s i 0) (d (k + i))
 
   -- and each of the first k
-  pub digits-take : (k : ℕ) (s : List ℕ) → Digits s → Digits (take k s)
-  digits-take k s d i =
+  pub digits_take : (k : ℕ) (s : List ℕ) → Digits s → Digits (take k s)
+  digits_take k s d i =
       by_cases (dec_lt i k) (λ h. rw (get_or-take k s i 0 h) (d i))
       (λ h.
       rw (get_or-eq_default (take k s) 0 {n = i} (rw length-take (omega arith)))
       (rw (get_or-eq_default s 0 {n = length s} (le_refl (length s))) at (d (length s))))
 
   -- n digits are a number below the base to the power n
-  pub from-lt : (n : ℕ) (s : List ℕ) → Digits s → from_base b n s < b ^ n
+  pub from_lt : (n : ℕ) (s : List ℕ) → Digits s → from_base b n s < b ^ n
   unfolding from_base
-  from-lt zero s d = rw (pow-zero b) (lit< tt)
-  from-lt (suc n) s d = rw (pow-suc b n) (digits_lt (from-lt n s d) (d n))
+  from_lt zero s d = rw (pow-zero b) (lit< tt)
+  from_lt (suc n) s d = rw (pow-suc b n) (digits_lt (from_lt n s d) (d n))
 
   -- a number without its last j digits
-  from-div : (m j : ℕ) (s : List ℕ) → Digits s → from_base b (m + j) s / b ^ j ≡ from_base b m s
+  from_div : (m j : ℕ) (s : List ℕ) → Digits s → from_base b (m + j) s / b ^ j ≡ from_base b m s
   unfolding from_base
-  from-div m zero s d = simp (add-zero, pow-zero, div-one)
-  from-div m (suc j) s d =
+  from_div m zero s d = simp (add-zero, pow-zero, div-one)
+  from_div m (suc j) s d =
       rw (add-suc m j, pow-succ' b j, ← div-div-eq-div-mul)
-      (ap (λ (x : ℕ). x / b ^ j) (digits_div (from_base b (m + j) s) (d (m + j))) ∙ from-div m j s d)
+      (ap (λ (x : ℕ). x / b ^ j) (digits_div (from_base b (m + j) s) (d (m + j))) ∙ from_div m j s d)
 
-  from-digit : (n k : ℕ) (s : List ℕ) → Digits s → suc k ≤ n → from_base b n s / b ^ (n - suc k) % b ≡ get_or s k 0
+  from_digit : (n k : ℕ) (s : List ℕ) → Digits s → suc k ≤ n → from_base b n s / b ^ (n - suc k) % b ≡ get_or s k 0
   unfolding from_base
-  from-digit n k s d h =
+  from_digit n k s d h =
       ap (λ (m : ℕ). from_base b m s / b ^ (n - suc k) % b) (sym (add-sub_of_le h))
-      ∙ ap (λ (x : ℕ). x % b) (from-div (suc k) (n - suc k) s d)
+      ∙ ap (λ (x : ℕ). x % b) (from_div (suc k) (n - suc k) s d)
       ∙ digits_mod (from_base b k s) (d k)
 
   -- the digits of the number of digits are those
-  pub to-from : (n : ℕ) (s : List ℕ) → Digits s → length s ≡ n → to_base b n (from_base b n s) ≡ s
-  to-from n s d e =
+  pub to_from : (n : ℕ) (s : List ℕ) → Digits s → length s ≡ n → to_base b n (from_base b n s) ≡ s
+  to_from n s d e =
       let v = from_base b n s in
       ext_get_or 0 (to_base b n v) s (to_length b n v ∙ sym e)
-      (λ k h. let below = rw (to_length b n v) at h in to_at b n v k below ∙ from-digit n k s d below)
+      (λ k h. let below = rw (to_length b n v) at h in to_at b n v k below ∙ from_digit n k s d below)
 
   from_first : zero < b → (k j x : ℕ) → from_base b k (to_base b (k + j) x) ≡ x / b ^ j % b ^ k
   unfolding from_base
@@ -90,8 +90,8 @@ module _ (b : ℕ) where
       ∙ ap (λ (m : ℕ). y % m) (sym (pow-suc b k))
 
   -- the number of the n lowest digits of x
-  pub from-to : zero < b → (n x : ℕ) → from_base b n (to_base b n x) ≡ x % b ^ n
-  from-to p n x =
+  pub from_to : zero < b → (n x : ℕ) → from_base b n (to_base b n x) ≡ x % b ^ n
+  from_to p n x =
       ap (λ (m : ℕ). from_base b n (to_base b m x)) (sym (add-zero n))
       ∙ from_first p n zero x
       ∙ ap (λ (y : ℕ). y % b ^ n) (rw (pow-zero b) (div-one x))
@@ -106,4 +106,4 @@ to_bytes (suc n) x = simp (lt-ltb (x / 256 ^ n % 256) 256 (mod-lt (x / 256 ^ n) 
 
 -- a word from its bytes
 pub word_back : (x : ℕ) → x < 2 ^ 64 → word (word_bytes x) ≡ x
-word_back x h = from-to 256 (lit< tt) 8 x ∙ mod-eq_of_lt h
+word_back x h = from_to 256 (lit< tt) 8 x ∙ mod-eq_of_lt h

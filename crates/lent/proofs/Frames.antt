@@ -40,13 +40,13 @@ said_back k s h =
 
 -- A text that has room.
 module _ (n fill : ℕ) (text : List ℕ) (room : 2 + length text ≤ n) where
-  pub framed-length : length (framed n fill text) ≡ n
+  pub framed_length : length (framed n fill text) ≡ n
   unfolding framed
-  framed-length = simp (length-append, two_length, length-replicate) (omega arith)
+  framed_length = simp (length-append, two_length, length-replicate) (omega arith)
 
-  pub framed-all : (p : ℕ → Bool) → ((x : ℕ) → digit x ≡ true → p x ≡ true) → all p text ≡ true → p fill ≡ true → all p (framed n fill text) ≡ true
+  pub framed_all : (p : ℕ → Bool) → ((x : ℕ) → digit x ≡ true → p x ≡ true) → all p text ≡ true → p fill ≡ true → all p (framed n fill text) ≡ true
   unfolding framed to_base
-  framed-all p h t f =
+  framed_all p h t f =
       rw (
         all_append p (two_digits (length text)) (text ++ replicate (n - 2 - length text) fill),
         two_all p h (length text),
@@ -56,17 +56,17 @@ module _ (n fill : ℕ) (text : List ℕ) (room : 2 + length text ≤ n) where
       (all_replicate p (n - 2 - length text) fill f)
 
   -- it stands in its frame
-  pub framed-back : length text < 100 → framed_text (framed n fill text) ≡ text
+  pub framed_back : length text < 100 → framed_text (framed n fill text) ≡ text
   unfolding framed framed_text to_base
-  framed-back short =
+  framed_back short =
       rw (said_back (length text) (text ++ replicate (n - 2 - length text) fill) short)
       (take_at text (replicate (n - 2 - length text) fill) (length text) refl)
 
   -- a frame that is written over the fill: the length, then the text
-  pub framed-written : {a b : List ℕ} {j k l m : ℕ} → Written (appending (two_digits (length text)) (replicate n fill) 0) (replicate n fill) j k a
+  pub framed_written : {a b : List ℕ} {j k l m : ℕ} → Written (appending (two_digits (length text)) (replicate n fill) 0) (replicate n fill) j k a
       → Written (appending text a 2) a l m b → b ≡ framed n fill text
   unfolding framed to_base
-  framed-written {a} w v =
+  framed_written {a} w v =
       let two = two_length (length text) in
       let fills = length-replicate n fill in
       let first : a ≡ two_digits (length text) ++ drop 2 (replicate n fill) = (appended _ _ 0 (omega arith) w).memory ∙ rw two in

@@ -14,7 +14,7 @@ use Rattle.lent.specs.Characters.{digit, digit_value}
 use Rattle.lent.specs.Choice.{all}
 use Rattle.lent.specs.HalfBytes.{low_half, word_of}
 use Rattle.lent.specs.Words.{from_base, to_base}
-use Rattle.lent.proofs.Bases.{to_length, from-to}
+use Rattle.lent.proofs.Bases.{to_length, from_to}
 use Rattle.lent.proofs.Laws.{between_true}
 use Rattle.lent.proofs.Lists.{all_map, map_all}
 use Rattle.lent.proofs.Parts.{from_front}
@@ -43,7 +43,7 @@ low_digits = map_digits low_half digit_value (λ x h k. omega arith)
 -- every word is that of its sixteen half_bytes, so that the promise of `with_half_bytes` speaks of every x
 pub word_halves : (x : ℕ) → x < 2 ^ 64 → x ≡ word_of (to_base 16 16 x)
 unfolding word_of
-word_halves x h = sym (rw (to_length 16 16 x, from-to 16 (lit< tt) 16 x, mod-eq_of_lt h) (mod-eq_of_lt h))
+word_halves x h = sym (rw (to_length 16 16 x, from_to 16 (lit< tt) 16 x, mod-eq_of_lt h) (mod-eq_of_lt h))
 
 -- with one more after them
 one_more : (s : List ℕ) (h : ℕ) → word_of (s ++ h ∷ []) ≡ (word_of s * 16 + h) % 2 ^ 64

@@ -59,14 +59,14 @@ all_at p (x ∷ s) (suc i) e h = all_at p s i (both_true (p x) (all p s) e).1 (l
 -- A test of every element, in a loop at place i whose answer t is that of the elements from there on: the loop ends with false at an element that
 -- fails, goes on past one that passes, and ends with true past the last.
 module _ (p : ℕ → Bool) (s : List ℕ) (i : ℕ) {t : Bool} (e : all p (drop i s) ≡ t) where
-  pub all-fails : i < length s → p (get_or s i 0) ≡ false → false ≡ t
-  all-fails h f = simp f at (rw (drop_next s i h) at e)
+  pub all_fails : i < length s → p (get_or s i 0) ≡ false → false ≡ t
+  all_fails h f = simp f at (rw (drop_next s i h) at e)
 
-  pub all-passes : i < length s → p (get_or s i 0) ≡ true → all p (drop (i + 1) s) ≡ t
-  all-passes h f = simp f at (rw (drop_next s i h) at e)
+  pub all_passes : i < length s → p (get_or s i 0) ≡ true → all p (drop (i + 1) s) ≡ t
+  all_passes h f = simp f at (rw (drop_next s i h) at e)
 
-  pub all-ends : length s ≤ i → true ≡ t
-  all-ends h = rw (drop_of_length-le s h) at e
+  pub all_ends : length s ≤ i → true ≡ t
+  all_ends h = rw (drop_of_length-le s h) at e
 
 -- the test holds of every number from k on, n of them
 unfoldable pub holds_from : (ℕ → Bool) → ℕ → ℕ → Bool

@@ -14,7 +14,7 @@ use Rattle.lent.specs.Result.{Result, done, refused, require, lend, Written}
 use Rattle.lent.specs.Texts.{same}
 use Rattle.lent.proofs.Laws.{cases, never, both_true}
 use Rattle.lent.proofs.Prefixes.{same_true, same_self}
-use Rattle.lent.proofs.Results.{same-done, require-done, written-zero, written-refused, over_whole}
+use Rattle.lent.proofs.Results.{same_done, require_done, written_zero, written_refused, over_whole}
 
 -- A maker of blocks of n bytes, and a reader that takes what stands in a block if that passes a test, which it does exactly if it is permitted
 -- and makes the block.
@@ -32,25 +32,25 @@ pub record Reader (n : ℕ) (permitted : List ℕ → Bool) (make read : List �
 module _ {n : ℕ} {permitted : List ℕ → Bool} {make read : List ℕ → Result (List ℕ)} (r : Reader n permitted make read) where
   read_made : (text block : List ℕ) → Makes permitted make text block → read block ≡ done text
   read_made text block m =
-      let same : block ≡ r.block_of text = same-done (sym m.made ∙ r.maker text m.allowed) in
+      let same : block ≡ r.block_of text = same_done (sym m.made ∙ r.maker text m.allowed) in
       rw (same, r.reader _ (r.is_block text m.allowed), r.stands_back text m.allowed, r.passes text m.allowed)
 
   makes : (text block : List ℕ) → Block n block → r.test text block ≡ true → Makes permitted make text block
   makes text block b t = let o = r.only text block b t in record { allowed = o.0; made = r.maker text o.0 ∙ ap done o.1 }
 
-  read-makes : (text block : List ℕ) → Block n block → read block ≡ done text → Makes permitted make text block
-  read-makes text block b e =
+  read_makes : (text block : List ℕ) → Block n block → read block ≡ done text → Makes permitted make text block
+  read_makes text block b e =
       let q = r.stands block in
-      let k = require-done (r.test q block) bad_block (done q) text (sym (r.reader block b) ∙ e) in
-      rw (same-done k.1) at (makes q block b k.0)
+      let k = require_done (r.test q block) bad_block (done q) text (sym (r.reader block b) ∙ e) in
+      rw (same_done k.1) at (makes q block b k.0)
 
-  pub reads-back : ReadsBack n permitted make read
-  reads-back =
+  pub reads_back : ReadsBack n permitted make read
+  reads_back =
       record {
         makes = λ text h. (r.block_of text, r.is_block text h, record { allowed = h; made = r.maker text h });
-        one = λ text text' block m m'. same-done (sym (read_made text block m) ∙ read_made text' block m');
+        one = λ text text' block m m'. same_done (sym (read_made text block m) ∙ read_made text' block m');
         back = read_made;
-        only = read-makes;
+        only = read_makes;
         other = λ block b none.
             r.reader block b
             ∙ cases (r.test (r.stands block) block) (λ t. absurd (none _ (makes _ block b t))) (λ f. rw f);
@@ -79,16 +79,16 @@ module _ (n least most : ℕ) (p : ℕ → Bool) (block_of : List ℕ → List �
 
   made : (text block : List ℕ) → make text ≡ done block → (permitted text ≡ true) × (block_of text ≡ block)
   made text block e =
-      let s = require-done (sized text) size (require (all p text) character (done (block_of text))) block e in
-      let t = require-done (all p text) character (done (block_of text)) block s.1 in
-      (rw s.0 t.0, same-done t.1)
+      let s = require_done (sized text) size (require (all p text) character (done (block_of text))) block e in
+      let t = require_done (all p text) character (done (block_of text)) block s.1 in
+      (rw s.0 t.0, same_done t.1)
 
   module _ (is_block : (text : List ℕ) → permitted text ≡ true → Block n (block_of text)) where
     -- if it stands in its block, it is read back
-    pub made-reads-back : (stands : List ℕ → List ℕ) → ((text : List ℕ) → permitted text ≡ true → stands (block_of text) ≡ text)
+    pub made_reads_back : (stands : List ℕ → List ℕ) → ((text : List ℕ) → permitted text ≡ true → stands (block_of text) ≡ text)
         → ReadsBack n permitted make (λ block. require (eqb (length block) n) size (if_made make (stands block) block))
-    made-reads-back stands stands_back =
-        reads-back (record {
+    made_reads_back stands stands_back =
+        reads_back (record {
           block_of = block_of;
           stands = stands;
           test = λ text block. gives (make text) block;
@@ -106,14 +106,14 @@ module _ (n least most : ℕ) (p : ℕ → Bool) (block_of : List ℕ → List �
       fills : (v : List ℕ) → make text ≡ done v → length v ≡ length before
       fills v d = let m = made text v d in ap length (sym m.1) ∙ (is_block text m.0).size ∙ sym e
 
-      pub made-gives : num ≡ 0 → same after block ≡ gives (make text) block
-      made-gives z =
-          let k = written-zero w z in
+      pub made_gives : num ≡ 0 → same after block ≡ gives (make text) block
+      made_gives z =
+          let k = written_zero w z in
           ap (λ (s : List ℕ). same s block) (k.4 ∙ over_whole k.0 before (fills k.0 k.1))
           ∙ ap (λ (r : Result (List ℕ)). gives r block) (sym k.1)
 
-      pub refused-gives : (num ≡ 0 → ⊥) → false ≡ gives (make text) block
-      refused-gives z = let k = written-refused w (room (make text) refl) z in rw k.2
+      pub refused_gives : (num ≡ 0 → ⊥) → false ≡ gives (make text) block
+      refused_gives z = let k = written_refused w (room (make text) refl) z in rw k.2
         where
           room : (r : Result (List ℕ)) → make text ≡ r → lend (length before) (make text) ≡ make text
           room (done v) d = rw (d, fills v d) (simp (le-leb _ _ (le_refl (length before))))

@@ -33,13 +33,13 @@ not_zero short_buffer e = omega arith
 
 module _ {A : Type 0} where
   -- equal done answers have equal values
-  pub same-done : {a b : A} → done a ≡ done b → a ≡ b
-  same-done e = cc
+  pub same_done : {a b : A} → done a ≡ done b → a ≡ b
+  same_done e = cc
 
   -- a value under a test: the test held
-  pub require-done : (test : Bool) (why : Refusal) (r : Result A) (a : A) → require test why r ≡ done a → (test ≡ true) × (r ≡ done a)
-  require-done true why r a e = (refl, e)
-  require-done false why r a e = never (cc)
+  pub require_done : (test : Bool) (why : Refusal) (r : Result A) (a : A) → require test why r ≡ done a → (test ≡ true) × (r ≡ done a)
+  require_done true why r a e = (refl, e)
+  require_done false why r a e = never (cc)
 
 -- a value that came of going on came from a value
 pub then_done : {A B : Type 0} (r : Result A) (f : A → Result B) (b : B) → and_then r f ≡ done b → (a : A) × (r ≡ done a) × (f a ≡ done b)
@@ -98,8 +98,8 @@ refused_answer h (why, en, e) = refused_lent h (why, en, rw e)
 -- What a call wrote: a value that is done, or the number of a refusal.
 module _ {answer : Result (List ℕ)} {before after : List ℕ} {num len : ℕ} (w : Written answer before num len after) where
   -- with the number 0 there was room for a value, which stands at the start of the memory
-  pub written-zero : num ≡ 0 → (v : List ℕ) × (answer ≡ done v) × (length v ≤ length before) × (len ≡ length v) × (after ≡ over v before)
-  written-zero z = decided answer refl
+  pub written_zero : num ≡ 0 → (v : List ℕ) × (answer ≡ done v) × (length v ≤ length before) × (len ≡ length v) × (after ≡ over v before)
+  written_zero z = decided answer refl
     where
       decided : (r : Result (List ℕ)) → answer ≡ r
           → (v : List ℕ) × (answer ≡ done v) × (length v ≤ length before) × (len ≡ length v) × (after ≡ over v before)
@@ -109,16 +109,16 @@ module _ {answer : Result (List ℕ)} {before after : List ℕ} {num len : ℕ} 
           (λ f. absurd (let k = rw (e, f) at w.number in omega arith))
       decided (refused why) e = absurd (not_zero why (sym (rw e at w.number) ∙ z))
 
-  pub written-done : num ≡ 0 → (answer ≡ done (take len after)) × (len ≤ length after)
-  written-done z = let k = written-zero z in stands k.0 k.1 k.3 k.4
+  pub written_done : num ≡ 0 → (answer ≡ done (take len after)) × (len ≤ length after)
+  written_done z = let k = written_zero z in stands k.0 k.1 k.3 k.4
     where
       stands : (v : List ℕ) → answer ≡ done v → len ≡ length v → after ≡ over v before → (answer ≡ done (take len after)) × (len ≤ length after)
       stands v e el ea =
           (rw (el, ea) (e ∙ ap done (sym (take-append_seam v (drop (length v) before)))), rw (el, ea, length-append) (omega arith))
 
   -- with any other number and room for every value, the answer is a refusal
-  pub written-refused : lend (length before) answer ≡ answer → (num ≡ 0 → ⊥) → Refuses num answer
-  written-refused room h = decided answer refl
+  pub written_refused : lend (length before) answer ≡ answer → (num ≡ 0 → ⊥) → Refuses num answer
+  written_refused room h = decided answer refl
     where
       decided : (r : Result (List ℕ)) → answer ≡ r → Refuses num answer
       decided (done v) e = absurd (h (w.number ∙ ap number (room ∙ e)))

@@ -10,7 +10,7 @@ use lib.ListN.{length, take, drop, replicate, length-append}
 use lib.Seq.{take-append_seam}
 use Rattle.lent.specs.Result.{Result, done, refused, number, and_then, lend, over}
 use Rattle.lent.proofs.Laws.{cases}
-use Rattle.lent.proofs.Results.{Refuses, not_zero, same-done, number_refuses, refuses_then, written-zero, written-done}
+use Rattle.lent.proofs.Results.{Refuses, not_zero, same_done, number_refuses, refuses_then, written_zero, written_done}
 use Rattle.cleaning.specs.Counts.{Counted, WrittenText, where_done}
 use Rattle.cleaning.specs.declared.answers.TextAnswer.{TextAnswer}
 use Rattle.cleaning.proofs.Answering.{text_counted}
@@ -59,8 +59,8 @@ alone (refused why) raw = (refl, refl)
 -- what was written into 166 bytes: its MAC, the text, the MAC and the two numbers where the number is 0, and the refusal where it is another
 module _ (key m : List ℕ) {before after : List ℕ} {r : TextMac} (l : length before ≡ 166)
     (w : TextAndMac (message_text_and_mac key m) (joined_text m) before r after) where
-  pub answered-alone : AnsweredMac (message_mac key m) (joined_text m) (record { number = r.number; value = r.mac; dropped = r.dropped; spaces = r.spaces })
-  answered-alone =
+  pub answered_alone : AnsweredMac (message_mac key m) (joined_text m) (record { number = r.number; value = r.mac; dropped = r.dropped; spaces = r.spaces })
+  answered_alone =
       let e = both_fit key m in
       let a = alone (message_text_and_mac key m) (joined_text m) in
       record {
@@ -68,8 +68,8 @@ module _ (key m : List ℕ) {before after : List ℕ} {r : TextMac} (l : length 
         counted = rw (l, e.0, a.1, e.1) at w.counted;
       }
 
-  pub both-number : (r.number ≡ 0 → ⊥) → Refuses r.number (message_text_and_mac key m)
-  both-number z = number_refuses (message_text_and_mac key m) r.number (rw (l, (both_fit key m).0) at w.number) z
+  pub both_number : (r.number ≡ 0 → ⊥) → Refuses r.number (message_text_and_mac key m)
+  both_number z = number_refuses (message_text_and_mac key m) r.number (rw (l, (both_fit key m).0) at w.number) z
 
   pub both_zero : r.number ≡ 0 → (message_text_and_mac key m ≡ done (take r.length after, r.mac)) × (r.length ≤ length after)
   both_zero z = let e = (both_fit key m).0 in decided (message_text_and_mac key m) (rw (l, e) at w.number) (rw (l, e) at w.text) (rw (l, e) at w.mac) (rw (l, e) at w.memory)
@@ -79,8 +79,8 @@ module _ (key m : List ℕ) {before after : List ℕ} {r : TextMac} (l : length 
       decided (done (t, v)) en el ev ea = (rw (ev, el, ea, take-append_seam t (drop (length t) before)), rw (el, ea, length-append) (omega arith))
       decided (refused why) en el ev ea = absurd (not_zero why (sym en ∙ z))
 
-  pub both-counted : r.number ≡ 0 → Counted (joined_text m) r.dropped r.spaces
-  both-counted z = rw (l, (both_fit key m).0, (both_zero z).0) at w.counted
+  pub both_counted : r.number ≡ 0 → Counted (joined_text m) r.dropped r.spaces
+  both_counted z = rw (l, (both_fit key m).0, (both_zero z).0) at w.counted
 
 -- ---- what is left in lent memory
 
@@ -107,17 +107,17 @@ module _ (key m : List ℕ) (long : length key ≡ 8) {before after : List ℕ} 
   lent_both = rw (text_and_mac key m long) (lent_is key (length before) (message_text m))
 
   -- the text was refused, or had no room
-  pub both-refused : (r.number ≡ 0 → ⊥) → Refuses r.number (lend_text (length before) (message_text_and_mac key m)) × (after ≡ before)
-  both-refused z =
+  pub both_refused : (r.number ≡ 0 → ⊥) → Refuses r.number (lend_text (length before) (message_text_and_mac key m)) × (after ≡ before)
+  both_refused z =
       let q = number_refuses (lend (length before) (message_text m)) r.number w.written.number z in
       (rw lent_both (refuses_then _ q), rw q.2 at w.written.memory)
 
   -- the text was written
-  pub both-written : {val : List ℕ} → r.number ≡ 0 → val ≡ mac_of key (take r.length after)
+  pub both_written : {val : List ℕ} → r.number ≡ 0 → val ≡ mac_of key (take r.length after)
       → TextAndMac (message_text_and_mac key m) (joined_text m) before (record { number = 0; length = r.length; mac = val; dropped = r.dropped; spaces = r.spaces }) after
-  both-written {val = val} z em =
-      let k = written-zero w.written z in
-      written k.0 k.1 k.2 k.3 k.4 (em ∙ ap (mac_of key) (same-done (sym (written-done w.written z).0 ∙ k.1)))
+  both_written {val = val} z em =
+      let k = written_zero w.written z in
+      written k.0 k.1 k.2 k.3 k.4 (em ∙ ap (mac_of key) (same_done (sym (written_done w.written z).0 ∙ k.1)))
     where
       written : (v : List ℕ) → message_text m ≡ done v → length v ≤ length before → r.length ≡ length v → after ≡ over v before → val ≡ mac_of key v
           → TextAndMac (message_text_and_mac key m) (joined_text m) before (record { number = 0; length = r.length; mac = val; dropped = r.dropped; spaces = r.spaces }) after

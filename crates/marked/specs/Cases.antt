@@ -12,7 +12,7 @@ use Rattle.mac.specs.Mac.{text_mac}
 use Rattle.pinblock.specs.Entries.{make, make_with_card, read}
 use Rattle.card.specs.Entries.{derivation_data}
 use Rattle.card.specs.Session.{session_halves}
-use Rattle.registers.specs.Machine.{State, noKeys, spent}
+use Rattle.registers.specs.Machine.{State, no_keys, spent}
 use Rattle.host.specs.SingleLength.{single_length}
 
 -- ---- what is asked
@@ -38,7 +38,7 @@ pub data Input : Type 0 where
 
 -- a terminal's state with that counter next; what else it holds has no effect on the next one
 abbrev pub state_with : ℕ → State ℕ
-state_with c = record { keys = noKeys single_length; filled = 0; serial = replicate 10 0; counter = c; exhausted = false }
+state_with c = record { keys = no_keys single_length; filled = 0; serial = replicate 10 0; counter = c; exhausted = false }
 
 -- the counter of a state in three bytes; an exhausted one answers 12
 abbrev pub counter_in : State ℕ → Result (List ℕ)

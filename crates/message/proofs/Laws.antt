@@ -12,7 +12,7 @@ use Rattle.lent.specs.Characters.{digit}
 use Rattle.lent.specs.declared.characters.Kind.TheVariants.{Digits}
 use Rattle.lent.specs.Result.{done}
 use Rattle.lent.proofs.Laws.{both_true, between_true}
-use Rattle.lent.proofs.Results.{then_done, same-done}
+use Rattle.lent.proofs.Results.{then_done, same_done}
 use Rattle.cleaning.specs.Cleaning.{cleaned}
 use Rattle.cleaning.specs.Counts.{dropped_from, spaces_out_of}
 use Rattle.cleaning.proofs.Counting.{sizes}
@@ -37,7 +37,7 @@ fields_of : (m t : List ℕ) → message_text m ≡ done t → (fs : List Field)
 unfolding message_text
 fields_of m t e =
     let k = then_done (message_fields m) _ t e in
-    (k.0, k.1, same-done k.2)
+    (k.0, k.1, same_done k.2)
 
 spaced_short : (fs : List Field) (place : Place) → Rising place fs → room place + length (spaced fs) ≤ 167
 unfolding spaced space_before_each listed_only
@@ -108,7 +108,7 @@ gathered_some m v e =
 -- a message's text before cleaning has as many bytes as its text, with those that were dropped and the spaces that went out
 pub message_sizes : (m j t : List ℕ) → joined_text m ≡ done j → message_text m ≡ done t → length j ≡ length t + dropped_from j + spaces_out_of j
 message_sizes m j t d e =
-    let same : cleaned j ≡ t = same-done (sym (text_joined m ∙ rw d) ∙ e) in
+    let same : cleaned j ≡ t = same_done (sym (text_joined m ∙ rw d) ∙ e) in
     rw (← same) (sizes j)
 
 -- two accepted messages that agree on the listed fields have the same text

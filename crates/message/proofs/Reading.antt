@@ -10,7 +10,7 @@ use lib.ListN.{length}
 use Rattle.lent.specs.Refusals.{cut_short, field_order, field_form, message_type}
 use Rattle.lent.specs.Result.{Result, done, refused, number}
 use Rattle.lent.proofs.Laws.{never, both_true}
-use Rattle.lent.proofs.Results.{Refuses, not_zero, require-done, same-done}
+use Rattle.lent.proofs.Results.{Refuses, not_zero, require_done, same_done}
 use Rattle.message.specs.declared.records.Place.{Place}
 use Rattle.message.specs.declared.records.Place.TheVariants.{First, After}
 use Rattle.message.specs.declared.records.Read as Reading
@@ -32,10 +32,10 @@ pub checked : (place : Place) (f g : Field) → checked_field place f ≡ done g
     → (f ≡ g) × (in_order place f.number ≡ true) × (formed (rule f.number) f.body ≡ true)
 unfolding checked_field
 checked place f g e =
-    let b = require-done (in_order place f.number) field_order _ g e in
-    let d = require-done (formed (rule f.number) f.body) field_form _ g b.1 in
-    let k = require-done (known_type f.number f.body) message_type _ g d.1 in
-    (same-done k.1, b.0, d.0)
+    let b = require_done (in_order place f.number) field_order _ g e in
+    let d = require_done (formed (rule f.number) f.body) field_form _ g b.1 in
+    let k = require_done (known_type f.number f.body) message_type _ g d.1 in
+    (same_done k.1, b.0, d.0)
 
 -- a record that is not refused
 pub record Sound (place : Place) (s : List ℕ) : Type 0 where
@@ -47,22 +47,22 @@ pub record Sound (place : Place) (s : List ℕ) : Type 0 where
 pub sound : (place : Place) (s : List ℕ) (f : Field) → record_field place s ≡ done f → Sound place s
 unfolding record_field
 sound place s f e =
-    let a = require-done (leb (4 + body_size s) (length s)) cut_short _ f e in
+    let a = require_done (leb (4 + body_size s) (length s)) cut_short _ f e in
     let k = checked place (field_of s) f a.1 in
     record { field = e ∙ ap done (sym k.0); whole = leb-true _ _ a.0; order = k.1; form = k.2 }
 
 -- what is read of a record that is not refused, and of one that is
 module _ (place : Place) (s : List ℕ) where
-  pub read-field : (n end : ℕ) → read_of s (record_field place s) ≡ Reading.TheVariants.Field n end
+  pub read_field : (n end : ℕ) → read_of s (record_field place s) ≡ Reading.TheVariants.Field n end
       → Sound place s × (n ≡ (field_of s).number) × (end ≡ 4 + body_size s)
-  read-field n end e = decided (record_field place s) refl
+  read_field n end e = decided (record_field place s) refl
     where
       decided : (r : Result Field) → record_field place s ≡ r → Sound place s × (n ≡ (field_of s).number) × (end ≡ 4 + body_size s)
       decided (done f) d = let a = sound place s f d in (a, cc a.field, cc)
       decided (refused why) d = never (cc)
 
-  pub read-refused : (n : ℕ) → read_of s (record_field place s) ≡ Reading.TheVariants.Refused n → Refuses n (record_field place s)
-  read-refused n e = decided (record_field place s) refl
+  pub read_refused : (n : ℕ) → read_of s (record_field place s) ≡ Reading.TheVariants.Refused n → Refuses n (record_field place s)
+  read_refused n e = decided (record_field place s) refl
     where
       decided : (r : Result Field) → record_field place s ≡ r → Refuses n (record_field place s)
       decided (done g) d = never (cc)
@@ -70,11 +70,11 @@ module _ (place : Place) (s : List ℕ) where
 
 -- and what is to be read, by the number of the refusal
 module _ (s : List ℕ) where
-  pub reads-refused : (r : Result Field) (n : ℕ) → n ≡ number r → (n ≡ 0 → ⊥) → Reading.TheVariants.Refused n ≡ read_of s r
-  reads-refused (done f) n e z = absurd (z e)
-  reads-refused (refused why) n e z = ap Reading.TheVariants.Refused e
+  pub reads_refused : (r : Result Field) (n : ℕ) → n ≡ number r → (n ≡ 0 → ⊥) → Reading.TheVariants.Refused n ≡ read_of s r
+  reads_refused (done f) n e z = absurd (z e)
+  reads_refused (refused why) n e z = ap Reading.TheVariants.Refused e
 
-  pub reads-field : (r : Result Field) (f : Field) → ((g : Field) → r ≡ done g → f ≡ g) → number r ≡ 0
+  pub reads_field : (r : Result Field) (f : Field) → ((g : Field) → r ≡ done g → f ≡ g) → number r ≡ 0
       → Reading.TheVariants.Field f.number (4 + body_size s) ≡ read_of s r
-  reads-field (done g) f same z = ap (λ (h : Field). Reading.TheVariants.Field h.number (4 + body_size s)) (same g refl)
-  reads-field (refused why) f same z = absurd (not_zero why z)
+  reads_field (done g) f same z = ap (λ (h : Field). Reading.TheVariants.Field h.number (4 + body_size s)) (same g refl)
+  reads_field (refused why) f same z = absurd (not_zero why z)

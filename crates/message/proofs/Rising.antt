@@ -9,7 +9,7 @@ use lib.Dec.{leb, ltb}
 use lib.ListN.{length}
 use Rattle.lent.specs.Refusals.{cut_short, size}
 use Rattle.lent.specs.Result.{done, and_then}
-use Rattle.lent.proofs.Results.{require-done, then_done, same-done}
+use Rattle.lent.proofs.Results.{require_done, then_done, same_done}
 use Rattle.message.specs.declared.records.Place.{Place}
 use Rattle.message.specs.declared.records.Place.TheVariants.{First, After}
 use Rattle.message.specs.Fields.{rule, formed}
@@ -29,7 +29,7 @@ module _ (place : Place) (s t : List ℕ) (fs : List Field)
       let a = then_done (record_field place s) _ fs e in
       let h = sound place s a.0 a.1 in
       let b = then_done (records (3 + body_size s) (After (field_of s).number) t) (λ gs. done (field_of s ∷ gs)) fs (rw h.field at e) in
-      (b.0, h, b.1, same-done b.2)
+      (b.0, h, b.1, same_done b.2)
 
 records_rising : (s : List ℕ) (skip : ℕ) (place : Place) (fs : List Field) → records skip place s ≡ done fs → Rising place fs
 unfolding records
@@ -48,6 +48,6 @@ records_some (x ∷ s) place fs h e = omega (arith, ap length (first place (x �
 pub fields_rising : (m : List ℕ) (fs : List Field) → message_fields m ≡ done fs → Rising First fs × (0 < length fs)
 unfolding message_fields
 fields_rising m fs e =
-    let a = require-done (leb (length m) 4096) size _ fs e in
-    let b = require-done (ltb 0 (length m)) cut_short _ fs a.1 in
+    let a = require_done (leb (length m) 4096) size _ fs e in
+    let b = require_done (ltb 0 (length m)) cut_short _ fs a.1 in
     (records_rising m 0 First fs b.1, records_some m First fs (ltb-true _ _ b.0) b.1)

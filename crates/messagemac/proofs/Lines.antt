@@ -5,7 +5,7 @@ use Prim.Native.Nat.{ℕ, ◌≤◌}
 use native.Mathlib.Omega.{arith}
 use lib.ListN.{length, length-append}
 use Rattle.lent.specs.Private.{Appends}
-use Rattle.lent.proofs.Appending.{appended-front, both_appends}
+use Rattle.lent.proofs.Appending.{appended_front, both_appends}
 use Rattle.keyentry.specs.Hexadecimal.{text_of}
 use Rattle.keyentry.proofs.Texts.{text_length}
 use Rattle.messagemac.specs.Output.{line, decimal, refused_word, Made}
@@ -13,7 +13,7 @@ use Rattle.messagemac.proofs.Decimal.{decimal_short}
 
 -- lines that fit are made
 pub made : {v before after : List ℕ} {r : ℕ} → length before ≡ 226 → length v ≤ 226 → Appends v before after 0 r → Made v after r
-made l h p = let a = p (omega arith) in (appended-front a (omega arith), omega (arith, a.end))
+made l h p = let a = p (omega arith) in (appended_front a (omega arith), omega (arith, a.end))
 
 pub refusal_fits : (n : ℕ) → length (line (refused_word ++ decimal n)) ≤ 226
 refusal_fits n = simp length-append (omega (arith, decimal_short n))

@@ -11,7 +11,7 @@ use lib.Dec.{eqb}
 use lib.ListN.{get_or, drop, get_or-map}
 use lib.Seq.{get_or-drop}
 use Rattle.lent.specs.Words.{left, right, from_base}
-use Rattle.lent.proofs.Bases.{Digits, digits-drop}
+use Rattle.lent.proofs.Bases.{Digits, digits_drop}
 use Rattle.cipher.specs.Keys.{same_bytes, same_key}
 use Rattle.cipher.specs.Triple.{triple_encrypted}
 use Rattle.cipher.proofs.Laws.{same_none, same_more, triple_encrypted_same}
@@ -20,22 +20,22 @@ use Rattle.parity.specs.Parity.{without_low_bits}
 -- ---- byte by byte
 
 module _ (s t : List ℕ) (hs : Digits 256 s) (ht : Digits 256 t) where
-  last-and-rest : (n : ℕ) → same_bytes (suc n) (from_base 256 (suc n) s) (from_base 256 (suc n) t)
+  last_and_rest : (n : ℕ) → same_bytes (suc n) (from_base 256 (suc n) s) (from_base 256 (suc n) t)
       ≡ (eqb (get_or s n 0 / 2) (get_or t n 0 / 2) && same_bytes n (from_base 256 n s) (from_base 256 n t))
   unfolding from_base
-  last-and-rest n = same_more n (from_base 256 n s) (from_base 256 n t) (get_or s n 0) (get_or t n 0) (hs n) (ht n)
+  last_and_rest n = same_more n (from_base 256 n s) (from_base 256 n t) (get_or s n 0) (get_or t n 0) (hs n) (ht n)
 
-  pub each-byte : (n : ℕ) → same_bytes n (from_base 256 n s) (from_base 256 n t) ≡ true → (k : ℕ) → k < n → get_or s k 0 / 2 ≡ get_or t k 0 / 2
-  each-byte zero e k h = omega arith
-  each-byte (suc n) e k h =
-      let p = (and-eq-true_iff _ _).0 (sym (last-and-rest n) ∙ e) in
-      by_cases (dec_lt k n) (each-byte n p.1 k)
+  pub each_byte : (n : ℕ) → same_bytes n (from_base 256 n s) (from_base 256 n t) ≡ true → (k : ℕ) → k < n → get_or s k 0 / 2 ≡ get_or t k 0 / 2
+  each_byte zero e k h = omega arith
+  each_byte (suc n) e k h =
+      let p = (and-eq-true_iff _ _).0 (sym (last_and_rest n) ∙ e) in
+      by_cases (dec_lt k n) (each_byte n p.1 k)
       (λ g. let i : k ≡ n = omega arith in rw i (eqb-true _ _ p.0))
 
-  pub same_bytes : (n : ℕ) → ((k : ℕ) → k < n → get_or s k 0 / 2 ≡ get_or t k 0 / 2) → same_bytes n (from_base 256 n s) (from_base 256 n t) ≡ true
-  same_bytes zero f = same_none _ _
-  same_bytes (suc n) f =
-      last-and-rest n ∙ (and-eq-true_iff _ _).1 (eq-eqb _ _ (f n (omega arith)), same_bytes n (λ k h. f k (omega arith)))
+  pub same_bytes_lem : (n : ℕ) → ((k : ℕ) → k < n → get_or s k 0 / 2 ≡ get_or t k 0 / 2) → same_bytes n (from_base 256 n s) (from_base 256 n t) ≡ true
+  same_bytes_lem zero f = same_none _ _
+  same_bytes_lem (suc n) f =
+      last_and_rest n ∙ (and-eq-true_iff _ _).1 (eq-eqb _ _ (f n (omega arith)), same_bytes_lem n (λ k h. f k (omega arith)))
 
 -- ---- two keys of sixteen bytes that agree but for low bits
 
@@ -45,17 +45,17 @@ module _ (key other : List ℕ) (bytes : Digits 256 key) (e : without_low_bits o
       let half : ℕ → ℕ = λ b. b / 2 in
       sym (get_or-map half other k 0) ∙ ap (λ (s : List ℕ). get_or s k 0) e ∙ get_or-map half key k 0
 
-  other-bytes : Digits 256 other
-  other-bytes k = omega (arith, each k, bytes k)
+  other_bytes : Digits 256 other
+  other_bytes k = omega (arith, each k, bytes k)
 
   same_left : same_key (left other) (left key) ≡ true
-  same_left = same_bytes other key other-bytes bytes 8 (λ k h. each k)
+  same_left = same_bytes_lem other key other_bytes bytes 8 (λ k h. each k)
 
-  same-right : same_key (right other) (right key) ≡ true
-  same-right =
-      same_bytes (drop 8 other) (drop 8 key) (digits-drop 256 8 other other-bytes) (digits-drop 256 8 key bytes) 8
+  same_right : same_key (right other) (right key) ≡ true
+  same_right =
+      same_bytes_lem (drop 8 other) (drop 8 key) (digits_drop 256 8 other other_bytes) (digits_drop 256 8 key bytes) 8
       (λ k h. rw (get_or-drop 8 other k 0, get_or-drop 8 key k 0) (each (8 + k)))
 
   -- triple DES under them is the same
-  pub same-triple : (block : ℕ) → triple_encrypted (left other) (right other) block ≡ triple_encrypted (left key) (right key) block
-  same-triple block = triple_encrypted_same (left other) (left key) (right other) (right key) block same_left same-right
+  pub same_triple : (block : ℕ) → triple_encrypted (left other) (right other) block ≡ triple_encrypted (left key) (right key) block
+  same_triple block = triple_encrypted_same (left other) (left key) (right other) (right key) block same_left same_right

@@ -11,10 +11,10 @@ use Rattle.lent.specs.Choice.{between, all}
 use Rattle.lent.specs.Frames.{framed_text}
 use Rattle.lent.specs.ReadsBack.{Block, ReadsBack}
 use Rattle.lent.specs.Words.{byte}
-use Rattle.lent.proofs.Frames.{framed-length, framed-all, framed-back}
+use Rattle.lent.proofs.Frames.{framed_length, framed_all, framed_back}
 use Rattle.lent.proofs.Laws.{both_true, between_true}
 use Rattle.lent.proofs.Lists.{all_weaker}
-use Rattle.lent.proofs.ReadsBack.{made-reads-back}
+use Rattle.lent.proofs.ReadsBack.{made_reads_back}
 use Rattle.password.specs.Password.{password_size, permitted, password_block, make, read}
 
 -- characters of a range below 256 are bytes
@@ -30,14 +30,14 @@ unfolding password_block
 password_block_lem password h =
     let graphics = (both_true (password_size password) (all graphic password) h).1 in
     record {
-      size = framed-length 24 0xFF password (omega (arith, short password h));
+      size = framed_length 24 0xFF password (omega (arith, short password h));
       bytes =
-          framed-all 24 0xFF password (omega (arith, short password h)) byte (λ x e. range_byte 48 57 x (omega arith) e)
+          framed_all 24 0xFF password (omega (arith, short password h)) byte (λ x e. range_byte 48 57 x (omega arith) e)
           (all_weaker graphic byte (λ x e. range_byte 33 126 x (omega arith) e) password graphics) refl;
     }
 
 pub read_back : ReadsBack 24 permitted make read
 unfolding make read password_block
 read_back =
-    made-reads-back 24 6 20 graphic password_block password_block_lem framed_text
-    (λ password h. framed-back 24 0xFF password (omega (arith, short password h)) (omega (arith, short password h)))
+    made_reads_back 24 6 20 graphic password_block password_block_lem framed_text
+    (λ password h. framed_back 24 0xFF password (omega (arith, short password h)) (omega (arith, short password h)))

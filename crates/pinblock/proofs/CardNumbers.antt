@@ -14,37 +14,37 @@ use Rattle.lent.proofs.Laws.{between_true}
 use Rattle.lent.proofs.HalfBytes.{half_byte, values_half_bytes, low_digits}
 use Rattle.lent.proofs.Lists.{all_take, all_drop}
 use Rattle.pinblock.specs.CardNumber.{rightmost_twelve, card_half_bytes, card_part}
-use Rattle.pinblock.proofs.HalfBytes.{word_lt, word-of}
+use Rattle.pinblock.proofs.HalfBytes.{word_lt, word_of_lem}
 
 pub card_long : (card : List ℕ) → card_size card ≡ true → 13 ≤ length card
 card_long card h = (between_true 13 19 (length card) h).0
 
 module _ (card : List ℕ) (h : card_size card ≡ true) (d : all digit card ≡ true) where
-  twelve-digits : all digit (rightmost_twelve card) ≡ true
-  twelve-digits = all_take digit 12 (drop (length card - 13) card) (all_drop digit (length card - 13) card d)
+  twelve_digits : all digit (rightmost_twelve card) ≡ true
+  twelve_digits = all_take digit 12 (drop (length card - 13) card) (all_drop digit (length card - 13) card d)
 
-  card-length : length (card_half_bytes card) ≡ 16
+  card_length : length (card_half_bytes card) ≡ 16
   unfolding card_half_bytes
-  card-length =
+  card_length =
       let long = card_long card h in
       let twelve = length-take-le 12 (drop (length card - 13) card) (omega (arith, length-drop (length card - 13) card)) in
       omega (arith, length-map (rightmost_twelve card) digit_value)
 
-  card-half-bytes : all half_byte (card_half_bytes card) ≡ true
+  card_half_bytes_lem : all half_byte (card_half_bytes card) ≡ true
   unfolding card_half_bytes
-  card-half-bytes = values_half_bytes (rightmost_twelve card) twelve-digits
+  card_half_bytes_lem = values_half_bytes (rightmost_twelve card) twelve_digits
 
-  pub card-part-lt : card_part card < 2 ^ 64
+  pub card_part_lt : card_part card < 2 ^ 64
   unfolding card_part
-  card-part-lt = word_lt (card_half_bytes card) card-length card-half-bytes
+  card_part_lt = word_lt (card_half_bytes card) card_length card_half_bytes_lem
 
   -- the word of 0000 and the twelve characters from their first on
-  pub card-word : (start : ℕ) → start ≡ length card - 13
+  pub card_word : (start : ℕ) → start ≡ length card - 13
       → word_of (replicate 4 0 ++ map low_half (take (start + 12 - start) (drop start card))) ≡ card_part card
   unfolding card_part card_half_bytes
-  card-word start e =
+  card_word start e =
       let count : start + 12 - start ≡ 12 = omega arith in
-      rw (count, e, low_digits (rightmost_twelve card) twelve-digits) (word-of (card_half_bytes card) card-length card-half-bytes)
+      rw (count, e, low_digits (rightmost_twelve card) twelve_digits) (word_of_lem (card_half_bytes card) card_length card_half_bytes_lem)
 
 -- a card number's twelve digits, by what stands before its last
 last_left_out : (before : List ℕ) (x : ℕ) → 12 ≤ length before → rightmost_twelve (before ++ x ∷ []) ≡ drop (length before - 12) before

@@ -14,7 +14,7 @@ use Rattle.lent.specs.Characters.{digit_of}
 use Rattle.lent.specs.Choice.{all}
 use Rattle.lent.specs.HalfBytes.{word_of}
 use Rattle.lent.specs.Words.{from_base, to_base}
-use Rattle.lent.proofs.Bases.{to_at, to_length, to-from, from-lt}
+use Rattle.lent.proofs.Bases.{to_at, to_length, to_from, from_lt}
 use Rattle.lent.proofs.Laws.{holds_from, holds_below}
 use Rattle.lent.proofs.HalfBytes.{half_byte}
 use Rattle.lent.proofs.Lists.{elements_below}
@@ -46,11 +46,11 @@ text_written text x i b h n eb e =
 -- Sixteen half_bytes are those of their word.
 module _ (s : List ℕ) (n : length s ≡ 16) (h : all half_byte s ≡ true) where
   pub word_lt : from_base 16 16 s < 2 ^ 64
-  word_lt = from-lt 16 16 s (elements_below 16 s (lit< tt) h)
+  word_lt = from_lt 16 16 s (elements_below 16 s (lit< tt) h)
 
-  pub word-of : word_of s ≡ from_base 16 16 s
+  pub word_of_lem : word_of s ≡ from_base 16 16 s
   unfolding word_of
-  word-of = rw n (mod-eq_of_lt word_lt)
+  word_of_lem = rw n (mod-eq_of_lt word_lt)
 
-  pub half-bytes-of : to_base 16 16 (from_base 16 16 s) ≡ s
-  half-bytes-of = to-from 16 16 s (elements_below 16 s (lit< tt) h) n
+  pub half_bytes_of : to_base 16 16 (from_base 16 16 s) ≡ s
+  half_bytes_of = to_from 16 16 s (elements_below 16 s (lit< tt) h) n

@@ -13,10 +13,10 @@ use Rattle.lent.specs.Characters.{digit}
 use Rattle.lent.specs.ReadsBack.{Block, ReadsBack}
 use Rattle.lent.specs.Result.{Result, done, and_then}
 use Rattle.lent.specs.Words.{to_base, word, word_bytes}
-use Rattle.lent.proofs.Bases.{to_length, to-from, to_bytes, from-lt, word_back}
+use Rattle.lent.proofs.Bases.{to_length, to_from, to_bytes, from_lt, word_back}
 use Rattle.lent.proofs.Laws.{both_true}
 use Rattle.lent.proofs.Lists.{elements_below}
-use Rattle.lent.proofs.ReadsBack.{reads-back}
+use Rattle.lent.proofs.ReadsBack.{reads_back}
 use Rattle.cipher.proofs.Xor.{xor_cancel}
 use Rattle.keyed.specs.Keyed.{key_size, changed_block, encrypted_under, decrypted_under, decrypt_block}
 use Rattle.keyed.proofs.Laws.{Inverse, decrypt_undoes_encrypt}
@@ -24,8 +24,8 @@ use Rattle.pinblock.specs.CardNumber.{card_part, pin_block_with_card}
 use Rattle.pinblock.specs.Entries.{make, make_with_card, read, read_with_card, under_key, encrypt, encrypt_with_card, decrypt, decrypt_with_card}
 use Rattle.pinblock.specs.Pin.{pin_size, permitted, pin_block}
 use Rattle.pinblock.specs.Reading.{candidate, pin_if_made, pin_of}
-use Rattle.pinblock.proofs.CardNumbers.{card-part-lt, last_digit}
-use Rattle.pinblock.proofs.Pins.{pin-block-lt, pin-candidate}
+use Rattle.pinblock.proofs.CardNumbers.{card_part_lt, last_digit}
+use Rattle.pinblock.proofs.Pins.{pin_block_lt, pin_candidate}
 
 -- the bytes of a word are a block
 block_of_lem : (x : ℕ) → Block 8 (word_bytes x)
@@ -34,10 +34,10 @@ block_of_lem x = record { size = to_length 256 8 x; bytes = to_bytes 8 x }
 -- a block is the bytes of its word
 module _ {block : List ℕ} (b : Block 8 block) where
   word_lt : word block < 2 ^ 64
-  word_lt = from-lt 256 8 block (elements_below 256 block (lit< tt) b.bytes)
+  word_lt = from_lt 256 8 block (elements_below 256 block (lit< tt) b.bytes)
 
   block_back : word_bytes (word block) ≡ block
-  block_back = to-from 256 8 block (elements_below 256 block (lit< tt) b.bytes) b.size
+  block_back = to_from 256 8 block (elements_below 256 block (lit< tt) b.bytes) b.size
 
 -- A maker whose block is the bytes of a PIN's block, changed, and a reader that first takes the change back.
 record Changes (forth back : ℕ → ℕ) (make read : List ℕ → Result (List ℕ)) : Type 0 where
@@ -47,25 +47,25 @@ record Changes (forth back : ℕ → ℕ) (make read : List ℕ → Result (List
 
 module _ {forth back : ℕ → ℕ} {make read : List ℕ → Result (List ℕ)} (c : Changes forth back make read) where
   -- a PIN's block comes back from its bytes
-  block-undone : (pin : List ℕ) → permitted pin ≡ true → back (word (word_bytes (forth (pin_block pin)))) ≡ pin_block pin
-  block-undone pin h =
+  block_undone : (pin : List ℕ) → permitted pin ≡ true → back (word (word_bytes (forth (pin_block pin)))) ≡ pin_block pin
+  block_undone pin h =
       let x = pin_block pin in
-      let lt = pin-block-lt pin h in
+      let lt = pin_block_lt pin h in
       ap back (word_back (forth x) (c.inverse.forth_lt x lt)) ∙ c.inverse.back_forth x lt
 
   -- what stands in a block is read if it is permitted and its block, changed, is this one
-  changed-reads-back : ReadsBack 8 permitted make read
+  changed_reads_back : ReadsBack 8 permitted make read
   unfolding pin_of pin_if_made
-  changed-reads-back =
-      reads-back (record {
+  changed_reads_back =
+      reads_back (record {
         block_of = λ pin. word_bytes (forth (pin_block pin));
         stands = λ block. candidate (to_base 16 16 (back (word block)));
         test = λ pin block. both (permitted pin) (eqb (pin_block pin) (back (word block)));
         is_block = λ pin h. block_of_lem (forth (pin_block pin));
         maker = c.maker;
         reader = c.reader;
-        stands_back = λ pin h. rw (block-undone pin h) (pin-candidate pin h);
-        passes = λ pin h. rw (h, block-undone pin h) (eq-eqb (pin_block pin) (pin_block pin) refl);
+        stands_back = λ pin h. rw (block_undone pin h) (pin_candidate pin h);
+        passes = λ pin h. rw (h, block_undone pin h) (eq-eqb (pin_block pin) (pin_block pin) refl);
         only = λ pin block b t.
             let p = both_true (permitted pin) _ t in
             let e : pin_block pin ≡ back (word block) = eqb-true _ _ p.1 in
@@ -85,13 +85,13 @@ clear =
 
 -- without a card number
 pub read_back : ReadsBack 8 permitted make read
-read_back = changed-reads-back clear
+read_back = changed_reads_back clear
 
 module _ (card : List ℕ) (h : card_size card ≡ true) (d : all digit card ≡ true) where
-  with-card : Changes (λ x. bit_xor x (card_part card)) (λ x. bit_xor x (card_part card)) (λ pin. make_with_card pin card) (λ block. read_with_card block card)
+  with_card : Changes (λ x. bit_xor x (card_part card)) (λ x. bit_xor x (card_part card)) (λ pin. make_with_card pin card) (λ block. read_with_card block card)
   unfolding make_with_card read_with_card pin_block_with_card
-  with-card =
-      let lt : (x : ℕ) → x < 2 ^ 64 → bit_xor x (card_part card) < 2 ^ 64 = λ x k. xor_lt 64 x (card_part card) k (card-part-lt card h d) in
+  with_card =
+      let lt : (x : ℕ) → x < 2 ^ 64 → bit_xor x (card_part card) < 2 ^ 64 = λ x k. xor_lt 64 x (card_part card) k (card_part_lt card h d) in
       let undone : (x : ℕ) → x < 2 ^ 64 → bit_xor (bit_xor x (card_part card)) (card_part card) ≡ x = λ x k. xor_cancel x (card_part card) in
       record {
         inverse = record { forth_lt = lt; back_lt = lt; back_forth = undone; forth_back = undone };
@@ -100,8 +100,8 @@ module _ (card : List ℕ) (h : card_size card ≡ true) (d : all digit card ≡
       }
 
   -- with a card number
-  pub read-back-with-card : ReadsBack 8 permitted (λ pin. make_with_card pin card) (λ block. read_with_card block card)
-  read-back-with-card = changed-reads-back with-card
+  pub read_back_with_card : ReadsBack 8 permitted (λ pin. make_with_card pin card) (λ block. read_with_card block card)
+  read_back_with_card = changed_reads_back with_card
 
 -- a card number's last digit has no effect
 pub last_digit_free : (pin before : List ℕ) (x y : ℕ) → 12 ≤ length before
@@ -113,11 +113,11 @@ last_digit_free pin before x y h = ap (bit_xor (pin_block pin)) (last_digit befo
 
 module _ (key : List ℕ) (h : key_size key ≡ true) where
   -- for any maker and reader of clear blocks
-  under-key : {forth back : ℕ → ℕ} {make read : List ℕ → Result (List ℕ)} → Changes forth back make read
+  under_key_lem : {forth back : ℕ → ℕ} {make read : List ℕ → Result (List ℕ)} → Changes forth back make read
       → Changes (λ x. encrypted_under key (forth x)) (λ x. back (decrypted_under key x))
       (λ pin. under_key key (make pin)) (λ block. and_then (decrypt_block key block) read)
   unfolding under_key changed_block
-  under-key {forth} {back} c =
+  under_key_lem {forth} {back} c =
       let i = c.inverse in
       let j = decrypt_undoes_encrypt key in
       record {
@@ -130,7 +130,7 @@ module _ (key : List ℕ) (h : key_size key ≡ true) where
             };
         maker = λ pin k.
             let y = forth (pin_block pin) in
-            simp (h, c.maker pin k, to_length 256 8 y, word_back y (i.forth_lt (pin_block pin) (pin-block-lt pin k)));
+            simp (h, c.maker pin k, to_length 256 8 y, word_back y (i.forth_lt (pin_block pin) (pin_block_lt pin k)));
         reader = λ block b.
             let y = decrypted_under key (word block) in
             simp (eq-eqb (length block) 8 b.size, h)
@@ -138,12 +138,12 @@ module _ (key : List ℕ) (h : key_size key ≡ true) where
       }
 
   -- without a card number
-  pub decrypt-back : ReadsBack 8 permitted (encrypt key) (decrypt key)
+  pub decrypt_back : ReadsBack 8 permitted (encrypt key) (decrypt key)
   unfolding encrypt decrypt
-  decrypt-back = changed-reads-back (under-key clear)
+  decrypt_back = changed_reads_back (under_key_lem clear)
 
   -- with a card number
-  pub decrypt-back-with-card : (card : List ℕ) → card_size card ≡ true → all digit card ≡ true
+  pub decrypt_back_with_card : (card : List ℕ) → card_size card ≡ true → all digit card ≡ true
       → ReadsBack 8 permitted (λ pin. encrypt_with_card key pin card) (λ block. decrypt_with_card key block card)
   unfolding encrypt_with_card decrypt_with_card
-  decrypt-back-with-card card k d = changed-reads-back (under-key (with-card card k d))
+  decrypt_back_with_card card k d = changed_reads_back (under_key_lem (with_card card k d))

@@ -17,7 +17,7 @@ use Rattle.lent.proofs.HalfBytes.{half_byte, values_half_bytes, map_digits, low_
 use Rattle.lent.proofs.Lists.{all_append, all_replicate, take_replicate}
 use Rattle.pinblock.specs.Pin.{pin_size, permitted, pin_half_bytes, pin_block}
 use Rattle.pinblock.specs.Reading.{candidate}
-use Rattle.pinblock.proofs.HalfBytes.{word_lt, word-of, half-bytes-of}
+use Rattle.pinblock.proofs.HalfBytes.{word_lt, word_of_lem, half_bytes_of}
 
 -- ---- digits and their values
 
@@ -31,42 +31,42 @@ low_fill (suc n) = rw (low_fill n)
 -- ---- permitted PINs
 
 module _ (pin : List ℕ) (h : permitted pin ≡ true) where
-  pub pin-short : (4 ≤ length pin) × (length pin ≤ 12)
-  pin-short = between_true 4 12 (length pin) (both_true (pin_size pin) _ h).0
+  pub pin_short : (4 ≤ length pin) × (length pin ≤ 12)
+  pin_short = between_true 4 12 (length pin) (both_true (pin_size pin) _ h).0
 
-  pin-digits : all digit pin ≡ true
-  pin-digits = (both_true (pin_size pin) (all digit pin) h).1
+  pin_digits : all digit pin ≡ true
+  pin_digits = (both_true (pin_size pin) (all digit pin) h).1
 
-  pin-length : length (pin_half_bytes pin) ≡ 16
+  pin_length : length (pin_half_bytes pin) ≡ 16
   unfolding pin_half_bytes
-  pin-length = simp (length-append, length-map, length-replicate) (omega (arith, pin-short))
+  pin_length = simp (length-append, length-map, length-replicate) (omega (arith, pin_short))
 
-  pin-half-bytes : all half_byte (pin_half_bytes pin) ≡ true
+  pin_half_bytes_lem : all half_byte (pin_half_bytes pin) ≡ true
   unfolding pin_half_bytes
-  pin-half-bytes =
-      simp (lt-ltb (length pin) 16 (omega (arith, pin-short)))
-      (rw (all_append half_byte (map digit_value pin) (replicate (14 - length pin) 15), values_half_bytes pin pin-digits)
+  pin_half_bytes_lem =
+      simp (lt-ltb (length pin) 16 (omega (arith, pin_short)))
+      (rw (all_append half_byte (map digit_value pin) (replicate (14 - length pin) 15), values_half_bytes pin pin_digits)
       (all_replicate half_byte (14 - length pin) 15 refl))
 
-  pub pin-block-lt : pin_block pin < 2 ^ 64
+  pub pin_block_lt : pin_block pin < 2 ^ 64
   unfolding pin_block
-  pin-block-lt = word_lt (pin_half_bytes pin) pin-length pin-half-bytes
+  pin_block_lt = word_lt (pin_half_bytes pin) pin_length pin_half_bytes_lem
 
   -- the block's half_bytes: 0 and the length, the digits, F up to sixteen
   pub start_word : length pin ≡ word_of (0 ∷ length pin ∷ [])
   unfolding word_of from_base
-  start_word = sym (rw (zero-add (length pin)) (mod-eq_of_lt (omega (arith, pin-short))))
+  start_word = sym (rw (zero-add (length pin)) (mod-eq_of_lt (omega (arith, pin_short))))
 
-  pub pin-word : word_of ((0 ∷ length pin ∷ [] ++ map low_half pin) ++ map low_half (take (14 - length pin) (replicate 10 15))) ≡ pin_block pin
+  pub pin_word : word_of ((0 ∷ length pin ∷ [] ++ map low_half pin) ++ map low_half (take (14 - length pin) (replicate 10 15))) ≡ pin_block pin
   unfolding pin_block pin_half_bytes
-  pin-word =
-      rw (low_digits pin pin-digits, take_replicate (14 - length pin) 10 15 (omega (arith, pin-short)), low_fill (14 - length pin))
-      (word-of (pin_half_bytes pin) pin-length pin-half-bytes)
+  pin_word =
+      rw (low_digits pin pin_digits, take_replicate (14 - length pin) 10 15 (omega (arith, pin_short)), low_fill (14 - length pin))
+      (word_of_lem (pin_half_bytes pin) pin_length pin_half_bytes_lem)
 
   -- the block has the PIN's half_bytes, and the PIN stands in them
-  pub pin-candidate : candidate (to_base 16 16 (pin_block pin)) ≡ pin
+  pub pin_candidate : candidate (to_base 16 16 (pin_block pin)) ≡ pin
   unfolding candidate pin_block pin_half_bytes
-  pin-candidate =
-      rw (half-bytes-of (pin_half_bytes pin) pin-length pin-half-bytes)
+  pin_candidate =
+      rw (half_bytes_of (pin_half_bytes pin) pin_length pin_half_bytes_lem)
       (ap (map digit_of) (take_at (map digit_value pin) (replicate (14 - length pin) 15) (length pin) (length-map pin digit_value))
-      ∙ digit_of_value pin pin-digits)
+      ∙ digit_of_value pin pin_digits)

@@ -43,48 +43,48 @@ position_in parts =
 
 module _ {K : Type 0} (device : Device K) where
   -- the sizes of a record's parts
-  abbrev pub partSizes : List ℕ
-  partSizes = 21 * device.size ∷ rest_sizes
+  abbrev pub part_sizes : List ℕ
+  part_sizes = 21 * device.size ∷ rest_sizes
 
   -- their sum, and the place of the last byte
-  abbrev pub recordSize : ℕ
-  recordSize = 21 * device.size + 19
+  abbrev pub record_size : ℕ
+  record_size = 21 * device.size + 19
 
-  abbrev pub lastPlace : ℕ
-  lastPlace = 21 * device.size + 18
+  abbrev pub last_place : ℕ
+  last_place = 21 * device.size + 18
 
   -- ---- writing
 
   -- registers, one after the other
-  unfoldable pub registerBytes : List K → List ℕ
-  registerBytes [] = []
-  registerBytes (key ∷ keys) = device.bytes key ++ registerBytes keys
+  unfoldable pub register_bytes : List K → List ℕ
+  register_bytes [] = []
+  register_bytes (key ∷ keys) = device.bytes key ++ register_bytes keys
 
   -- the parts of a record
-  abbrev pub recordParts : State K → List (List ℕ)
-  recordParts s = registerBytes s.keys ∷ rest_parts s.serial (position_of s)
+  abbrev pub record_parts : State K → List (List ℕ)
+  record_parts s = register_bytes s.keys ∷ rest_parts s.serial (position_of s)
 
   -- its bytes
-  unfoldable pub recordBytes : State K → List ℕ
-  recordBytes s = joined (recordParts s)
+  unfoldable pub record_bytes : State K → List ℕ
+  record_bytes s = joined (record_parts s)
 
   -- ---- reading
 
   -- n registers from the start of the bytes
-  unfoldable pub registersOf : ℕ → List ℕ → List K
-  registersOf zero bytes = []
-  registersOf (suc n) bytes = device.read bytes ∷ registersOf n (drop device.size bytes)
+  unfoldable pub registers_of : ℕ → List ℕ → List K
+  registers_of zero bytes = []
+  registers_of (suc n) bytes = device.read bytes ∷ registers_of n (drop device.size bytes)
 
   -- the record of five parts
-  abbrev pub stateOfParts : List (List ℕ) → State K
-  stateOfParts parts = state_in (registersOf 21 (get_or parts 0 [])) (serial_in (drop 1 parts)) (position_in (drop 1 parts))
+  abbrev pub state_of_parts : List (List ℕ) → State K
+  state_of_parts parts = state_in (registers_of 21 (get_or parts 0 [])) (serial_in (drop 1 parts)) (position_in (drop 1 parts))
 
   -- the record of bytes
   unfoldable pub state_of : List ℕ → State K
-  state_of bytes = stateOfParts (cut partSizes bytes)
+  state_of bytes = state_of_parts (cut part_sizes bytes)
 
   -- bytes are a valid record: they have its size, the last of them is 0 or 1, and the record of them hangs together
   pub record ValidBytes (bytes : List ℕ) : Type 0 where
-    pub size : length bytes ≡ recordSize
-    pub exhausted-byte : get_or bytes lastPlace 0 ≤ 1
-    pub hangs-together : Valid device (state_of bytes)
+    pub size : length bytes ≡ record_size
+    pub exhausted_byte_lem : get_or bytes last_place 0 ≤ 1
+    pub hangs_together : Valid device (state_of bytes)

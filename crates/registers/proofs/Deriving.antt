@@ -23,18 +23,18 @@ bit_moved b n c h l r = ((one_shl 32 b (lit≤ tt) (omega arith)).0, omega (arit
 
 module _ {K : Type 0} (F : K → ℕ → K) (tail counter : ℕ) where
   -- a turn, from place b to the one below
-  pub derive-turn : (initial key next : K) (b : ℕ) → 0 < b → next ≡ past F tail key counter (b - 1)
+  pub derive_turn : (initial key next : K) (b : ℕ) → 0 < b → next ≡ past F tail key counter (b - 1)
       → derive F tail b key counter ≡ derive F tail 21 initial counter → derive F tail (b - 1) next counter ≡ derive F tail 21 initial counter
   unfolding derive
-  derive-turn initial key next b h n e = ap (λ (k : K). derive F tail (b - 1) k counter) n ∙ sym (turned b h) ∙ e
+  derive_turn initial key next b h n e = ap (λ (k : K). derive F tail (b - 1) k counter) n ∙ sym (turned b h) ∙ e
     where
       turned : (b : ℕ) → 0 < b → derive F tail b key counter ≡ derive F tail (b - 1) (past F tail key counter (b - 1)) counter
       turned zero h = absurd (omega arith)
       turned (suc b) h = let e : suc b - 1 ≡ b = omega arith in rw e
 
   -- past the last place
-  pub derive-last : (initial key : K) (b : ℕ) → b ≤ 0 → derive F tail b key counter ≡ derive F tail 21 initial counter
+  pub derive_last : (initial key : K) (b : ℕ) → b ≤ 0 → derive F tail b key counter ≡ derive F tail 21 initial counter
       → key ≡ register_key F initial tail counter
   unfolding derive register_key
-  derive-last initial key zero h e = e
-  derive-last initial key (suc b) h e = absurd (not-suc-le-zero h)
+  derive_last initial key zero h e = e
+  derive_last initial key (suc b) h e = absurd (not-suc-le-zero h)

@@ -8,17 +8,17 @@ use lib.Dec.{eqb}
 use lib.ListN.{length}
 use Rattle.lent.specs.Refusals.{Refusal, size, equal_halves, bad_counter}
 use Rattle.lent.specs.Result.{Result, done, refused, number, require}
-use Rattle.lent.proofs.Results.{Refuses, not_zero, same-done}
+use Rattle.lent.proofs.Results.{Refuses, not_zero, same_done}
 use Rattle.registers.specs.Counters.{Permitted}
 use Rattle.registers.specs.SerialNumber.{counter_of, with_counter, cleared_head}
 use Rattle.registers.specs.RegisterKey.{register_key}
 use Rattle.registers.specs.Device.{Device}
 use Rattle.registers.specs.Machine.{loaded}
-use Rattle.registers.specs.Host.{same_halves, derivable, initialOf, givenKey, initialKey, hostKey}
+use Rattle.registers.specs.Host.{same_halves, derivable, initial_of, given_key, initial_key, host_key}
 use Rattle.registers.specs.Calls.{loading}
 use Rattle.registers.proofs.Lawful.{Lawful}
 use Rattle.registers.proofs.Order.{passes, fails}
-use Rattle.registers.proofs.SerialNumbers.{length-with, counter-with, tail-with, head-with}
+use Rattle.registers.proofs.SerialNumbers.{length_with, counter_with, tail_with, head_with}
 
 -- A derivation key of 16 bytes whose halves differ without low bits, and a serial number of 10 bytes.
 pub record Fit (derivation serial : List ℕ) : Type 0 where
@@ -41,75 +41,75 @@ tests true true true x r e h = absurd (h e)
 
 module _ (derivation serial : List ℕ) where
   -- the tests pass exactly if the two fit
-  fits-derivable : Fit derivation serial → (r : Result (List ℕ)) → derivable derivation serial r ≡ r
+  fits_derivable : Fit derivation serial → (r : Result (List ℕ)) → derivable derivation serial r ≡ r
   unfolding derivable
-  fits-derivable f r = simp (f.key_size_lem, f.serial_size, f.differ)
+  fits_derivable f r = simp (f.key_size_lem, f.serial_size, f.differ)
 
-  derivable-fit : (r : Result (List ℕ)) → number (derivable derivation serial r) ≡ 0 → Fit derivation serial
+  derivable_fit : (r : Result (List ℕ)) → number (derivable derivation serial r) ≡ 0 → Fit derivation serial
   unfolding derivable
-  derivable-fit r z =
+  derivable_fit r z =
       let k = passed (eqb (length derivation) 16) _ _ z in
       let s = passed (eqb (length serial) 10) _ _ k.1 in
       let h = passed (not (same_halves derivation)) equal_halves r s.1 in
       record { key_size_lem = eqb-true _ _ k.0; serial_size = eqb-true _ _ s.0; differ = not-true _ h.0 }
 
   -- and refuse whatever comes after them
-  derivable-refuses : {num : ℕ} (r : Result (List ℕ)) → num ≡ number (derivable derivation serial (done [])) → ¬ (num ≡ 0)
+  derivable_refuses : {num : ℕ} (r : Result (List ℕ)) → num ≡ number (derivable derivation serial (done [])) → ¬ (num ≡ 0)
       → Refuses num (derivable derivation serial r)
   unfolding derivable
-  derivable-refuses r e h = tests (eqb (length derivation) 16) (eqb (length serial) 10) (not (same_halves derivation)) [] r e h
+  derivable_refuses r e h = tests (eqb (length derivation) 16) (eqb (length serial) 10) (not (same_halves derivation)) [] r e h
 
 module _ {K : Type 0} (device : Device K) (derivation serial : List ℕ) where
   -- they have an initial key, and only they
-  pub initial-done : Fit derivation serial → initialKey device derivation serial ≡ done (device.bytes (initialOf device derivation serial))
-  unfolding initialKey
-  initial-done f = fits-derivable derivation serial f _
+  pub initial_done : Fit derivation serial → initial_key device derivation serial ≡ done (device.bytes (initial_of device derivation serial))
+  unfolding initial_key
+  initial_done f = fits_derivable derivation serial f _
 
-  pub fit : {key : List ℕ} → initialKey device derivation serial ≡ done key → Fit derivation serial
-  unfolding initialKey
-  fit e = derivable-fit derivation serial _ (ap number e)
+  pub fit : {key : List ℕ} → initial_key device derivation serial ≡ done key → Fit derivation serial
+  unfolding initial_key
+  fit e = derivable_fit derivation serial _ (ap number e)
 
   -- by the number that the tests give: the refusal of both keys, or that there is an initial key
   module _ {num : ℕ} (tested : num ≡ number (derivable derivation serial (done []))) where
-    pub initial-refuses : ¬ (num ≡ 0) → Refuses num (initialKey device derivation serial)
-    unfolding initialKey
-    initial-refuses h = derivable-refuses derivation serial _ tested h
+    pub initial_refuses : ¬ (num ≡ 0) → Refuses num (initial_key device derivation serial)
+    unfolding initial_key
+    initial_refuses h = derivable_refuses derivation serial _ tested h
 
-    pub host-refuses : ¬ (num ≡ 0) → Refuses num (hostKey device derivation serial)
-    unfolding hostKey
-    host-refuses h = derivable-refuses derivation serial _ tested h
+    pub host_refuses : ¬ (num ≡ 0) → Refuses num (host_key device derivation serial)
+    unfolding host_key
+    host_refuses h = derivable_refuses derivation serial _ tested h
 
-    pub tested-fit : num ≡ 0 → Fit derivation serial
-    tested-fit z = derivable-fit derivation serial _ (sym tested ∙ z)
+    pub tested_fit : num ≡ 0 → Fit derivation serial
+    tested_fit z = derivable_fit derivation serial _ (sym tested ∙ z)
 
   -- the host's key is decided by the counter
   module _ (f : Fit derivation serial) where
-    pub host-uncounted : ¬ Permitted (counter_of serial) → hostKey device derivation serial ≡ refused bad_counter
-    unfolding hostKey
-    host-uncounted bad = fits-derivable derivation serial f _ ∙ rw (fails bad)
+    pub host_uncounted : ¬ Permitted (counter_of serial) → host_key device derivation serial ≡ refused bad_counter
+    unfolding host_key
+    host_uncounted bad = fits_derivable derivation serial f _ ∙ rw (fails bad)
 
-    pub host-counted : Permitted (counter_of serial) → hostKey device derivation serial ≡ done (givenKey device derivation serial (counter_of serial))
-    unfolding hostKey
-    host-counted ok = fits-derivable derivation serial f _ ∙ rw (passes ok)
+    pub host_counted : Permitted (counter_of serial) → host_key device derivation serial ≡ done (given_key device derivation serial (counter_of serial))
+    unfolding host_key
+    host_counted ok = fits_derivable derivation serial f _ ∙ rw (passes ok)
 
   -- the initial key that the host gives is loaded as what it is
-  pub initial-loads : Lawful device → (key : List ℕ) → initialKey device derivation serial ≡ done key
-      → loading device key serial ≡ done (loaded device (initialOf device derivation serial) serial)
+  pub initial_loads : Lawful device → (key : List ℕ) → initial_key device derivation serial ≡ done key
+      → loading device key serial ≡ done (loaded device (initial_of device derivation serial) serial)
   unfolding loading
-  initial-loads lawful key e =
+  initial_loads lawful key e =
       let ok = fit e in
-      let initial = initialOf device derivation serial in
-      let bytes : key ≡ device.bytes initial = same-done (sym e ∙ initial-done ok) in
+      let initial = initial_of device derivation serial in
+      let bytes : key ≡ device.bytes initial = same_done (sym e ∙ initial_done ok) in
       let read : device.read key ≡ initial =
-      ap device.read (bytes ∙ sym (append-nil (device.bytes initial))) ∙ lawful.initial-back derivation (cleared_head serial) [] in
+      ap device.read (bytes ∙ sym (append-nil (device.bytes initial))) ∙ lawful.initial_back derivation (cleared_head serial) [] in
       simp (eq-eqb (length key) device.size (ap length bytes ∙ lawful.sized initial), ok.serial_size, read)
 
 -- the host's key for a permitted counter
 pub host_done : {K : Type 0} (device : Device K) (derivation serial : List ℕ) (c : ℕ) → Permitted c → Fit derivation serial
-    → hostKey device derivation (with_counter serial c) ≡ done (givenKey device derivation serial c)
+    → host_key device derivation (with_counter serial c) ≡ done (given_key device derivation serial c)
 host_done device derivation serial c ok f =
-    let same = counter-with serial c ok.fits in
-    let fits : Fit derivation (with_counter serial c) = record { key_size_lem = f.key_size_lem; serial_size = length-with serial c; differ = f.differ } in
-    rw (host-counted device derivation (with_counter serial c) fits (rw same ok), same)
+    let same = counter_with serial c ok.fits in
+    let fits : Fit derivation (with_counter serial c) = record { key_size_lem = f.key_size_lem; serial_size = length_with serial c; differ = f.differ } in
+    rw (host_counted device derivation (with_counter serial c) fits (rw same ok), same)
     (ap₂ (λ (h t : ℕ). done (device.bytes (device.variant (register_key device.one_way (device.initial derivation h) t c))))
-    (head-with serial c) (tail-with serial c))
+    (head_with serial c) (tail_with serial c))

@@ -15,24 +15,24 @@ use Rattle.registers.proofs.Bits.{shr_on, above_place, twice}
 
 module _ {K : Type 0} (F : K → ℕ → K) (tail : ℕ) where
   -- a multiple of 2 ^ b: nothing is left to do below place b
-  derive-at : (b z : ℕ) (k : K) → ((j : K) → derive F tail b j (z * 2 ^ b) ≡ j)
+  derive_at : (b z : ℕ) (k : K) → ((j : K) → derive F tail b j (z * 2 ^ b) ≡ j)
       → derive F tail (suc b) k (z * 2 ^ b) ≡ pick (eqb (z % 2) 1) (F k (tail + z * 2 ^ b)) k
   unfolding derive
-  derive-at b z k rest = rest _ ∙ ap (λ (x : ℕ). pick (eqb (x % 2) 1) (F k (tail + x * 2 ^ b)) k) (mul-div_cancel z (pow_pos b))
+  derive_at b z k rest = rest _ ∙ ap (λ (x : ℕ). pick (eqb (x % 2) 1) (F k (tail + x * 2 ^ b)) k) (mul-div_cancel z (pow_pos b))
 
-  derive-rest : (b y : ℕ) (k : K) → derive F tail b k (y * 2 ^ b) ≡ k
+  derive_rest : (b y : ℕ) (k : K) → derive F tail b k (y * 2 ^ b) ≡ k
   unfolding derive
-  derive-rest zero y k = refl
-  derive-rest (suc b) y k =
+  derive_rest zero y k = refl
+  derive_rest (suc b) y k =
       let even : y * 2 % 2 ≡ 0 = omega arith in
-      ap (derive F tail (suc b) k) (twice y b) ∙ derive-at b (y * 2) k (λ j. derive-rest b (y * 2) j)
+      ap (derive F tail (suc b) k) (twice y b) ∙ derive_at b (y * 2) k (λ j. derive_rest b (y * 2) j)
       ∙ ap (λ (d : ℕ). pick (eqb d 1) (F k (tail + y * 2 * 2 ^ b)) k) even
 
-  derive-step : (w b y : ℕ) → b < w → (k : K)
+  derive_step : (w b y : ℕ) → b < w → (k : K)
       → derive F tail w k ((y * 2 + 1) * 2 ^ b) ≡ F (derive F tail w k (y * 2 * 2 ^ b)) (tail + (y * 2 + 1) * 2 ^ b)
   unfolding derive
-  derive-step zero b y h k = absurd (not-suc-le-zero h)
-  derive-step (suc w) b y h k = go (eq-or-lt_of_le (le_of_suc-le-suc h)) (λ q j. derive-step w b y q j)
+  derive_step zero b y h k = absurd (not-suc-le-zero h)
+  derive_step (suc w) b y h k = go (eq-or-lt_of_le (le_of_suc-le-suc h)) (λ q j. derive_step w b y q j)
     where
       Goal : ℕ → K → Type 0
       Goal v j = derive F tail v j ((y * 2 + 1) * 2 ^ b) ≡ F (derive F tail v j (y * 2 * 2 ^ b)) (tail + (y * 2 + 1) * 2 ^ b)
@@ -41,9 +41,9 @@ module _ {K : Type 0} (F : K → ℕ → K) (tail : ℕ) where
       go (inl e) ih =
           let odd : (y * 2 + 1) % 2 ≡ 1 = omega arith in
           let here : Goal (suc b) k =
-          derive-at b (y * 2 + 1) k (λ j. derive-rest b (y * 2 + 1) j)
+          derive_at b (y * 2 + 1) k (λ j. derive_rest b (y * 2 + 1) j)
           ∙ ap (λ (d : ℕ). pick (eqb d 1) (F k (tail + (y * 2 + 1) * 2 ^ b)) k) odd
-          ∙ ap (λ (j : K). F j (tail + (y * 2 + 1) * 2 ^ b)) (sym (ap (derive F tail (suc b) k) (sym (twice y b)) ∙ derive-rest (suc b) y k)) in
+          ∙ ap (λ (j : K). F j (tail + (y * 2 + 1) * 2 ^ b)) (sym (ap (derive F tail (suc b) k) (sym (twice y b)) ∙ derive_rest (suc b) y k)) in
           subst (λ (v : ℕ). Goal (suc v) k) e here
       go (inr q) ih =
           let same : (d : ℕ) → d < 2 → (y * 2 + d) * 2 ^ b / 2 ^ w ≡ y / 2 ^ (w - suc b) =
@@ -53,10 +53,10 @@ module _ {K : Type 0} (F : K → ℕ → K) (tail : ℕ) where
           rw e (ih q _)
 
   -- the places of x from b up are those of its bits from b up, and after them come the places below
-  derive-cut : (b x w : ℕ) → b ≤ w → (k : K) → derive F tail w k x ≡ derive F tail b (derive F tail w k (bits_from b x)) x
+  derive_cut : (b x w : ℕ) → b ≤ w → (k : K) → derive F tail w k x ≡ derive F tail b (derive F tail w k (bits_from b x)) x
   unfolding derive
-  derive-cut b x = le_ind (λ (w : ℕ). (k : K) → derive F tail w k x ≡ derive F tail b (derive F tail w k (bits_from b x)) x)
-      (λ k. ap (λ (j : K). derive F tail b j x) (sym (derive-rest b (x / 2 ^ b) k)))
+  derive_cut b x = le_ind (λ (w : ℕ). (k : K) → derive F tail w k x ≡ derive F tail b (derive F tail w k (bits_from b x)) x)
+      (λ k. ap (λ (j : K). derive F tail b j x) (sym (derive_rest b (x / 2 ^ b) k)))
       (λ w h ih k.
       let same : bits_from b x / 2 ^ w ≡ x / 2 ^ w =
       shr_on (bits_from b x) b w h ∙ ap (λ (y : ℕ). y / 2 ^ (w - b)) (shl-shr (x / 2 ^ b) b) ∙ sym (shr_on x b w h) in
@@ -70,13 +70,13 @@ module _ {K : Type 0} (F : K → ℕ → K) (initial : K) (tail : ℕ) where
   key_step c b y h e =
       let even : c ≡ y * 2 * 2 ^ b = e ∙ twice y b in
       let odd : c + 2 ^ b ≡ (y * 2 + 1) * 2 ^ b = omega (arith, add-mul (y * 2) 1 (2 ^ b), one-mul (2 ^ b)) in
-      rw (odd, even) (derive-step F tail 21 b y h initial)
+      rw (odd, even) (derive_step F tail 21 b y h initial)
 
-  pub key-zero : register_key F initial tail 0 ≡ initial
+  pub key_zero : register_key F initial tail 0 ≡ initial
   unfolding register_key
-  key-zero = ap (derive F tail 21 initial) (sym (zero-mul (2 ^ 21))) ∙ derive-rest F tail 21 0 initial
+  key_zero = ap (derive F tail 21 initial) (sym (zero-mul (2 ^ 21))) ∙ derive_rest F tail 21 0 initial
 
   -- the key of a counter, from that of its bits from b up
-  pub key-under : (x b : ℕ) → b ≤ 21 → register_key F initial tail x ≡ derive F tail b (register_key F initial tail (bits_from b x)) x
+  pub key_under : (x b : ℕ) → b ≤ 21 → register_key F initial tail x ≡ derive F tail b (register_key F initial tail (bits_from b x)) x
   unfolding register_key
-  key-under x b h = derive-cut F tail b x 21 h initial
+  key_under x b h = derive_cut F tail b x 21 h initial

@@ -15,7 +15,7 @@ module _ {K : Type 0} (device : Device K) where
     pub sized : (key : K) → length (device.bytes key) ≡ device.size
     -- the keys that a terminal holds
     pub empty_back : ReadBack device.empty
-    pub initial-back : (derivation : List ℕ) (head : ℕ) → ReadBack (device.initial derivation head)
+    pub initial_back : (derivation : List ℕ) (head : ℕ) → ReadBack (device.initial derivation head)
     pub step_back : (key : K) (x : ℕ) → ReadBack key → ReadBack (device.one_way key x)
     -- bytes and the key that is read from them
     pub read_back : (s : List ℕ) → Digits 256 s → ReadBack (device.read s)

@@ -12,7 +12,7 @@ use lib.Dec.{lit<, lit≤}
 use lib.Pow.{pow_pos, pow_mono, shr_lt, shl-shr}
 use lib.Count.{ones, ones_cat, ones-ones, ones-le}
 use Rattle.registers.specs.Counters.{Permitted, permitted?, counter_permitted, count_to, permitted_to, Nth, last_counter, lowest_place, next_after, next_counter}
-use Rattle.registers.proofs.Counting.{count-hit, count-gap, count-mono, count-lt, count-unique, count-below}
+use Rattle.registers.proofs.Counting.{count_hit, count_gap, count_mono, count_lt, count_unique, count_below_lem}
 use Rattle.registers.proofs.Bits.{Lowest, lowest, place_lt, ones_pos, ones_odd, ones_shl, ones_suc, twice}
 
 -- ---- the count
@@ -30,22 +30,22 @@ passed c e = by_cases (permitted? c) (λ ok. ok) (λ bad. absurd (false≢true (
 -- a permitted counter's number is from 1 on
 pub count_least : (c : ℕ) → Permitted c → 1 ≤ permitted_to c
 unfolding count_to
-count_least c ok = omega (arith, count-lt counter_permitted 0 c ok.from_one (passes ok))
+count_least c ok = omega (arith, count_lt counter_permitted 0 c ok.from_one (passes ok))
 
 -- there is at most one n-th smallest
 pub nth_unique : (n c d : ℕ) → Nth n c → Nth n d → c ≡ d
-nth_unique n c d x y = count-unique counter_permitted c d (passes x.permitted) (passes y.permitted) (x.number ∙ sym y.number)
+nth_unique n c d x y = count_unique counter_permitted c d (passes x.permitted) (passes y.permitted) (x.number ∙ sym y.number)
 
 -- the numbers below it are those with a lower count
 pub nth_before : (n c x : ℕ) → Nth (suc n) c → (permitted_to x ≤ n) ↔ (x < c)
 nth_before n c x nth = (
-  λ h. by_cases (dec_lt x c) (λ q. q) (λ q. absurd (omega (arith, nth.number, count-mono counter_permitted c x (omega arith)))),
-  λ h. omega (arith, nth.number, count-lt counter_permitted x c h (passes nth.permitted)),
+  λ h. by_cases (dec_lt x c) (λ q. q) (λ q. absurd (omega (arith, nth.number, count_mono counter_permitted c x (omega arith)))),
+  λ h. omega (arith, nth.number, count_lt counter_permitted x c h (passes nth.permitted)),
 )
 
 -- each n up to the count of x has one
 pub nth_below : (x n : ℕ) → 1 ≤ n → n ≤ permitted_to x → (c : ℕ) × Nth n c
-nth_below x n p q = let h = count-below counter_permitted x n p q in (h.0, record { permitted = passed h.0 h.1; number = h.2 })
+nth_below x n p q = let h = count_below_lem counter_permitted x n p q in (h.0, record { permitted = passed h.0 h.1; number = h.2 })
 
 -- ---- the first and the last counter
 
@@ -143,8 +143,8 @@ next_count c ok h =
     let n = next_permitted c ok h in
     let d = next_after c in
     let e : suc (d - 1) ≡ d = omega (arith, n.above) in
-    ap permitted_to (sym e) ∙ count-hit counter_permitted (d - 1) (passes (subst Permitted (sym e) n.permitted))
-    ∙ ap suc (count-gap counter_permitted c (d - 1) (omega (arith, n.above)) (λ x p q. fails (n.none_between x p (omega (arith, n.above)))))
+    ap permitted_to (sym e) ∙ count_hit counter_permitted (d - 1) (passes (subst Permitted (sym e) n.permitted))
+    ∙ ap suc (count_gap counter_permitted c (d - 1) (omega (arith, n.above)) (λ x p q. fails (n.none_between x p (omega (arith, n.above)))))
 
 -- up to the last counter the next one is the rule's, and after it there is none
 pub next_on : (c : ℕ) → c < last_counter → next_counter c ≡ next_after c

@@ -89,31 +89,31 @@ filled_above c ok x b h = go (says c ok.from_one ok.fits b)
 
 module _ {K : Type 0} (device : Device K) (s : State K) (valid : Valid device s) where
   -- the rule fills the register
-  pub under-fills : (x b : ℕ) → UnderFilled s x b → Fills device s b
-  under-fills x b lies =
+  pub under_fills : (x b : ℕ) → UnderFilled s x b → Fills device s b
+  under_fills x b lies =
       by_cases (fills? device s b) (λ f. f) (λ f. absurd (omega (arith, lies.filled, (valid.bare b lies.register f).unfilled)))
 
-  under-above : (x b : ℕ) → UnderFilled s x b → Above (s.counter - 1) x b
-  under-above x b lies =
-      let (runs, f) = under-fills x b lies in
+  under_above : (x b : ℕ) → UnderFilled s x b → Above (s.counter - 1) x b
+  under_above x b lies =
+      let (runs, f) = under_fills x b lies in
       (filled_above s.counter (runs_counted valid.counted runs) x b lies.register).0 (f, lies.under)
 
   -- where a number lies under a filled register, there is a next counter, and the number is not below it
-  pub under-later : (x b : ℕ) → UnderFilled s x b → (s.exhausted ≡ false) × (s.counter ≤ x)
-  under-later x b lies = (
-    (under-fills x b lies).0,
+  pub under_later : (x b : ℕ) → UnderFilled s x b → (s.exhausted ≡ false) × (s.counter ≤ x)
+  under_later x b lies = (
+    (under_fills x b lies).0,
     by_cases (dec_le s.counter x) (λ h. h)
-        (λ h. absurd (omega (arith, (under-above x b lies).1, shr_mono {a = x} {b = s.counter - 1} b (omega arith)))),
+        (λ h. absurd (omega (arith, (under_above x b lies).1, shr_mono {a = x} {b = s.counter - 1} b (omega arith)))),
   )
 
   -- and each number from the next counter on lies under exactly one
-  pub later-under : (x : ℕ) → s.exhausted ≡ false → s.counter ≤ x → x < 2 ^ 21 → UnderOne s x
-  later-under x runs h l =
+  pub later_under : (x : ℕ) → s.exhausted ≡ false → s.counter ≤ x → x < 2 ^ 21 → UnderOne s x
+  later_under x runs h l =
       let ok = runs_counted valid.counted runs in
       let (b, k, e) = differ 21 (s.counter - 1) x (omega (arith, ok.from_one)) l in
       let (f, u) = (filled_above s.counter ok x b k).1 e in
       record {
         register = b;
         lies = record { register = k; filled = valid.full b k (runs, f); under = u };
-        only = λ d lies. one_bit (s.counter - 1) x d b (under-above x d lies) e;
+        only = λ d lies. one_bit (s.counter - 1) x d b (under_above x d lies) e;
       }

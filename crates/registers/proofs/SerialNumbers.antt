@@ -21,19 +21,19 @@ with_with c serial d =
 
 module _ (serial : List ℕ) (c : ℕ) where
   -- it has ten bytes, and the counter c
-  pub length-with : length (with_counter serial c) ≡ 10
+  pub length_with : length (with_counter serial c) ≡ 10
   unfolding with_counter
-  length-with = refl
+  length_with = refl
 
-  pub counter-with : c < 2 ^ 21 → counter_of (with_counter serial c) ≡ c
+  pub counter_with : c < 2 ^ 21 → counter_of (with_counter serial c) ≡ c
   unfolding counter_of with_counter
-  counter-with h = omega arith
+  counter_with h = omega arith
 
   -- what is left without the counter does not look at it
-  pub tail-with : cleared_tail (with_counter serial c) ≡ cleared_tail serial
+  pub tail_with : cleared_tail (with_counter serial c) ≡ cleared_tail serial
   unfolding cleared_tail
-  tail-with = ap (λ (s : List ℕ). word (drop 2 s)) (with_with 0 serial c)
+  tail_with = ap (λ (s : List ℕ). word (drop 2 s)) (with_with 0 serial c)
 
-  pub head-with : cleared_head (with_counter serial c) ≡ cleared_head serial
+  pub head_with : cleared_head (with_counter serial c) ≡ cleared_head serial
   unfolding cleared_head with_counter from_base
-  head-with = omega arith
+  head_with = omega arith

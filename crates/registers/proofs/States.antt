@@ -14,14 +14,14 @@ use Rattle.registers.specs.Device.{Device}
 use Rattle.registers.specs.Machine.{State, loaded}
 use Rattle.registers.specs.Rule.{label, Blank, Fills, Valid, FilledByRule}
 use Rattle.registers.specs.Deciding.{fills?}
-use Rattle.registers.specs.Host.{initialOf, key_of}
+use Rattle.registers.specs.Host.{initial_of, key_of}
 use Rattle.registers.specs.Demand.{Waits, StateDemand}
 use Rattle.registers.proofs.Order.{count_least, nth_unique, nth_before}
 use Rattle.registers.proofs.Total.{count_most}
-use Rattle.registers.proofs.Places.{label-later}
+use Rattle.registers.proofs.Places.{label_later}
 use Rattle.registers.proofs.Validity.{runs_counted}
-use Rattle.registers.proofs.Reach.{under-later, later-under}
-use Rattle.registers.proofs.Progress.{Follows, ready-most, follows-valid, loaded-follows}
+use Rattle.registers.proofs.Reach.{under_later, later_under}
+use Rattle.registers.proofs.Progress.{Follows, ready_most, follows_valid, loaded_follows}
 
 module _ {K : Type 0} (device : Device K) (derivation serial : List ℕ) where
   -- the state s after those counters were given out: it follows the rule, and as many as they are, they are that many smallest permitted ones
@@ -29,9 +29,9 @@ module _ {K : Type 0} (device : Device K) (derivation serial : List ℕ) where
     pub follows : Follows device derivation serial (length given) s
     pub smallest : (c : ℕ) → Memᴰ c given ↔ (Permitted c × (permitted_to c ≤ length given))
 
-  pub after-loading : After [] (loaded device (initialOf device derivation serial) serial)
-  after-loading = record {
-    follows = loaded-follows device derivation serial;
+  pub after_loading : After [] (loaded device (initial_of device derivation serial) serial)
+  after_loading = record {
+    follows = loaded_follows device derivation serial;
     smallest = λ c. (λ m. absurd (Memᴰ.not-nil m), λ (ok, h). absurd (omega (arith, count_least c ok)));
   }
 
@@ -58,16 +58,16 @@ module _ {K : Type 0} (device : Device K) (derivation serial : List ℕ) where
     abbrev n : ℕ
     n = length given
 
-    pub after-valid : Valid device s
-    after-valid = follows-valid device derivation serial n s now.follows
+    pub after_valid : Valid device s
+    after_valid = follows_valid device derivation serial n s now.follows
 
     most : Follows device derivation serial n s → n ≤ counter_total
-    most (inl ready) = omega (arith, ready-most device derivation serial n s ready)
+    most (inl ready) = omega (arith, ready_most device derivation serial n s ready)
     most (inr finished) = omega (arith, finished.all)
 
-    filled-by-rule : Follows device derivation serial n s → FilledByRule device (key_of device derivation serial) s
-    filled-by-rule (inl ready) = record { filled = λ b h f. (ready.valid.full b h f, ready.holds b h f.1); others = ready.valid.bare }
-    filled-by-rule (inr finished) = record {
+    filled_by_rule : Follows device derivation serial n s → FilledByRule device (key_of device derivation serial) s
+    filled_by_rule (inl ready) = record { filled = λ b h f. (ready.valid.full b h f, ready.holds b h f.1); others = ready.valid.bare }
+    filled_by_rule (inr finished) = record {
       filled = λ b h f. absurd (false≢true (sym f.0 ∙ finished.stopped));
       others = finished.valid.bare;
     }
@@ -92,28 +92,28 @@ module _ {K : Type 0} (device : Device K) (derivation serial : List ℕ) where
 
     -- the label of a filled register is a counter that was not given out
     waiting : (follows : Follows device derivation serial n s) (b : ℕ) → b < 21 → Blank device s b ⊎ Waits device derivation serial given s b
-    waiting follows b h = by_cases (fills? device s b) (λ f. inr (waits f)) (λ f. inl (after-valid.bare b h f))
+    waiting follows b h = by_cases (fills? device s b) (λ f. inr (waits f)) (λ f. inl (after_valid.bare b h f))
       where
         waits : Fills device s b → Waits device derivation serial given s b
         waits (runs, f) =
-            let ok = runs_counted after-valid.counted runs in
-            let next = label-later s.counter ok.from_one ok.fits ok.few b h f in
-            let held = (filled-by-rule follows).filled b h (runs, f) in
+            let ok = runs_counted after_valid.counted runs in
+            let next = label_later s.counter ok.from_one ok.fits ok.few b h f in
+            let held = (filled_by_rule follows).filled b h (runs, f) in
             record {
               counter = label s.counter b;
               permitted = next.0;
-              not-given = λ m. omega (arith, next.1, earlier follows (label s.counter b) m runs);
+              not_given = λ m. omega (arith, next.1, earlier follows (label s.counter b) m runs);
               filled = held.0;
               holds = held.1;
             }
 
-    pub after-demand : StateDemand device derivation serial given s
-    after-demand =
+    pub after_demand : StateDemand device derivation serial given s
+    after_demand =
         let follows = now.follows in
         record {
           most = most follows;
-          rule = filled-by-rule follows;
+          rule = filled_by_rule follows;
           registers = waiting follows;
-          within-reach = λ x ok new. let (runs, h) = later follows x ok new in later-under device s after-valid x runs h ok.fits;
-          beyond-reach = λ x m b lies. let (runs, h) = under-later device s after-valid x b lies in omega (arith, earlier follows x m runs);
+          within_reach = λ x ok new. let (runs, h) = later follows x ok new in later_under device s after_valid x runs h ok.fits;
+          beyond_reach = λ x m b lies. let (runs, h) = under_later device s after_valid x b lies in omega (arith, earlier follows x m runs);
         }

@@ -13,7 +13,7 @@ use lib.Pow.{suc_ones}
 use lib.Count.{ones, ones_cat}
 use Rattle.lent.specs.Choice.{pick}
 use Rattle.registers.specs.Counters.{Permitted, counter_permitted, count_to, permitted_to, last_counter, counter_total}
-use Rattle.registers.proofs.Counting.{count-hit, count-miss, count-gap, count-mono}
+use Rattle.registers.proofs.Counting.{count_hit, count_miss, count_gap, count_mono}
 use Rattle.registers.proofs.Order.{passes, fails, permitted_le}
 
 -- ---- the numbers from 0 on
@@ -83,10 +83,10 @@ count_few (suc c) h =
     by_cases (dec_lt (ones (suc c)) 11)
     (λ q.
     let ok : Permitted (suc c) = record { from_one = zero-lt-suc c; fits = h; few = omega arith } in
-    rw (lt-ltb (ones (suc c)) 11 q) (omega (arith, count_few c (omega arith), count-hit counter_permitted c (passes ok))))
+    rw (lt-ltb (ones (suc c)) 11 q) (omega (arith, count_few c (omega arith), count_hit counter_permitted c (passes ok))))
     (λ q.
     rw (le-ltb (ones (suc c)) 11 (omega arith))
-    (omega (arith, count_few c (omega arith), count-miss counter_permitted c (fails (λ ok. omega (arith, ok.few))))))
+    (omega (arith, count_few c (omega arith), count_miss counter_permitted c (fails (λ ok. omega (arith, ok.few))))))
 
 all_few : few_in 21 11 ≡ 1_048_576
 unfolding few_in
@@ -96,9 +96,9 @@ all_few = refl
 pub total : permitted_to last_counter ≡ counter_total
 total =
     let last : permitted_to (2 ^ 21 - 1) ≡ permitted_to last_counter =
-    count-gap counter_permitted last_counter (2 ^ 21 - 1) (lit≤ tt) (λ x p q. fails (λ ok. omega (arith, permitted_le x ok))) in
+    count_gap counter_permitted last_counter (2 ^ 21 - 1) (lit≤ tt) (λ x p q. fails (λ ok. omega (arith, permitted_le x ok))) in
     omega (arith, count_few (2 ^ 21 - 1) (lit< tt), ap (count_below (few_ones 11)) (suc_ones 21), few_in_lem 21 11, all_few)
 
 -- a permitted counter's number is at most that
 pub count_most : (c : ℕ) → Permitted c → permitted_to c ≤ counter_total
-count_most c ok = omega (arith, count-mono counter_permitted c last_counter (permitted_le c ok), total)
+count_most c ok = omega (arith, count_mono counter_permitted c last_counter (permitted_le c ok), total)

@@ -63,44 +63,44 @@ module _ {K : Type 0} (device : Device K) where
       go (is_filled g e q) = omega (arith, mask_bit s.counter ok.from_one ok.fits b h)
       go (is_bare g e) = absurd (g f)
 
-  mask-bare : (s : State K) → Counted s.exhausted s.counter → (b : ℕ) → b < 21 → ¬ Fills device s b → bit (filled_mask s.counter) b ≡ 0
-  mask-bare s (inr (stopped, z)) b h bare = ap (λ (c : ℕ). bit (filled_mask c) b) z ∙ no_bits b
-  mask-bare s (inl (runs, ok)) b h bare = go (says s.counter ok.from_one ok.fits b)
+  mask_bare : (s : State K) → Counted s.exhausted s.counter → (b : ℕ) → b < 21 → ¬ Fills device s b → bit (filled_mask s.counter) b ≡ 0
+  mask_bare s (inr (stopped, z)) b h bare = ap (λ (c : ℕ). bit (filled_mask c) b) z ∙ no_bits b
+  mask_bare s (inl (runs, ok)) b h bare = go (says s.counter ok.from_one ok.fits b)
     where
       go : Says s.counter b → bit (filled_mask s.counter) b ≡ 0
       go (is_filled g e q) = absurd (bare (runs, g))
       go (is_bare g e) = omega (arith, mask_bit s.counter ok.from_one ok.fits b h)
 
-  mask-narrow : (s : State K) → Counted s.exhausted s.counter → filled_mask s.counter < 2 ^ 21
-  mask-narrow s (inl (runs, ok)) = omega (arith, mask_is s.counter ok.from_one ok.fits, ok.from_one)
-  mask-narrow s (inr (stopped, z)) = rw (z, mask_zero) (lit< tt)
+  mask_narrow : (s : State K) → Counted s.exhausted s.counter → filled_mask s.counter < 2 ^ 21
+  mask_narrow s (inl (runs, ok)) = omega (arith, mask_is s.counter ok.from_one ok.fits, ok.from_one)
+  mask_narrow s (inr (stopped, z)) = rw (z, mask_zero) (lit< tt)
 
   -- ---- from the tests to the rule's words, and back
 
-  pub checked-valid : (s : State K) → Checked s → Valid device s
-  checked-valid s ok = record {
+  pub checked_valid : (s : State K) → Checked s → Valid device s
+  checked_valid s ok = record {
     serial_size = ok.serial_size;
     clear = ok.clear;
     counted = ok.order.counted;
     size = ok.size;
-    narrow = rw ok.order.mask (mask-narrow s ok.order.counted);
+    narrow = rw ok.order.mask (mask_narrow s ok.order.counted);
     full = λ b h f. at b ∙ mask_full s ok.order.counted b h f;
-    bare = λ b h f. let z = at b ∙ mask-bare s ok.order.counted b h f in record { unfilled = z; zeros = ok.empties b h z };
+    bare = λ b h f. let z = at b ∙ mask_bare s ok.order.counted b h f in record { unfilled = z; zeros = ok.empties b h z };
   }
     where
       at : (b : ℕ) → filled_at s b ≡ bit (filled_mask s.counter) b
       at b = ap (λ (x : ℕ). bit x b) ok.order.mask
 
-  pub valid-checked : (s : State K) → Valid device s → Checked s
-  valid-checked s v = record {
+  pub valid_checked : (s : State K) → Valid device s → Checked s
+  valid_checked s v = record {
     serial_size = v.serial_size;
     clear = v.clear;
     size = v.size;
-    order = record { counted = v.counted; mask = same_bits 21 s.filled (filled_mask s.counter) v.narrow (mask-narrow s v.counted) same };
+    order = record { counted = v.counted; mask = same_bits 21 s.filled (filled_mask s.counter) v.narrow (mask_narrow s v.counted) same };
     empties = λ b h e. by_cases (fills? device s b) (λ f. absurd (omega (arith, v.full b h f))) (λ f. (v.bare b h f).zeros);
   }
     where
       same : (b : ℕ) → b < 21 → filled_at s b ≡ bit (filled_mask s.counter) b
       same b h =
           by_cases (fills? device s b) (λ f. v.full b h f ∙ sym (mask_full s v.counted b h f))
-          (λ f. (v.bare b h f).unfilled ∙ sym (mask-bare s v.counted b h f))
+          (λ f. (v.bare b h f).unfilled ∙ sym (mask_bare s v.counted b h f))

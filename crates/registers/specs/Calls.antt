@@ -6,7 +6,7 @@ use Rattle.lent.specs.Result.{Result, done, require, over, of_done}
 use Rattle.lent.specs.Result as result
 use Rattle.registers.specs.SerialNumber.{with_counter}
 use Rattle.registers.specs.Device.{Device}
-use Rattle.registers.specs.Machine.{State, loaded, readyKey, spent, zeroState}
+use Rattle.registers.specs.Machine.{State, loaded, ready_key, spent, zero_state}
 use Rattle.registers.specs.Deciding.{valid?}
 
 -- What a done call for the next key gives out, the counter, the serial number with it and the bytes of the key, and the state that it leaves.
@@ -39,7 +39,7 @@ module _ {K : Type 0} (device : Device K) where
   -- the promise of a loading: its number and its state, where refused the all-zero one
   pub record Load (initial serial : List ℕ) (num : ℕ) (s : State K) : Type 0 where
     pub number : num ≡ result.number (loading initial serial)
-    pub state : s ≡ of_done (λ t. t) (zeroState device) (loading initial serial)
+    pub state : s ≡ of_done (λ t. t) (zero_state device) (loading initial serial)
 
   -- ---- the next key
 
@@ -48,13 +48,13 @@ module _ {K : Type 0} (device : Device K) where
   given s = record {
     counter = s.counter;
     serial = with_counter s.serial s.counter;
-    key = device.bytes (device.variant (readyKey device s));
+    key = device.bytes (device.variant (ready_key device s));
     left = spent device s;
   }
 
   -- it, or the refusal: 11 if the state does not hang together, 12 if it is exhausted, 13 if the memory lent is not enough
-  unfoldable pub nextKey : State K → Bool → Result (Given K)
-  nextKey s enough =
+  unfoldable pub next_key : State K → Bool → Result (Given K)
+  next_key s enough =
       require (ite (valid? device s) true false) refusals.bad_record
       (require (not s.exhausted) refusals.exhausted
       (require enough refusals.short_buffer
@@ -74,4 +74,4 @@ module _ {K : Type 0} (device : Device K) where
 
   -- the promise of a call for the next key
   abbrev pub Next : State K → Call K → Type 0
-  Next s x = Keeps (nextKey s (roomy x)) s x
+  Next s x = Keeps (next_key s (roomy x)) s x

@@ -11,9 +11,9 @@ use Rattle.registers.specs.Device.{Device}
 use Rattle.registers.specs.Machine.{State, key_at, filled_at}
 use Rattle.registers.specs.Rule.{Blank, FilledByRule}
 use Rattle.registers.specs.Reach.{UnderFilled, UnderOne}
-use Rattle.registers.specs.Host.{key_of, hostKey}
+use Rattle.registers.specs.Host.{key_of, host_key}
 use Rattle.registers.specs.Calls.{Given}
-use Rattle.registers.specs.Trace.{Trace, recordAfter, counters_of}
+use Rattle.registers.specs.Trace.{Trace, record_after, counters_of}
 
 -- A way of calling a terminal: T is what holds its record, X a call for the next key with its answer and the memory lent to it.
 pub record Entry (K T X : Type 0) : Type 1 where
@@ -37,7 +37,7 @@ module _ {K : Type 0} (device : Device K) (derivation serial : List ℕ) where
   pub record Waits (given : List ℕ) (s : State K) (b : ℕ) : Type 0 where
     pub counter : ℕ
     pub permitted : Permitted counter
-    pub not-given : ¬ Memᴰ counter given
+    pub not_given : ¬ Memᴰ counter given
     pub filled : filled_at s b ≡ 1
     pub holds : key_at device s b ≡ key_of device derivation serial counter
 
@@ -50,8 +50,8 @@ module _ {K : Type 0} (device : Device K) (derivation serial : List ℕ) where
     pub registers : (b : ℕ) → b < 21 → Blank device s b ⊎ Waits given s b
     -- no payment key is out of reach (02, M-101): every permitted counter not yet given out lies under exactly one filled register, and none
     -- already given out lies under any
-    pub within-reach : (x : ℕ) → Permitted x → ¬ Memᴰ x given → UnderOne s x
-    pub beyond-reach : (x : ℕ) → Memᴰ x given → (b : ℕ) → ¬ UnderFilled s x b
+    pub within_reach : (x : ℕ) → Permitted x → ¬ Memᴰ x given → UnderOne s x
+    pub beyond_reach : (x : ℕ) → Memᴰ x given → (b : ℕ) → ¬ UnderFilled s x b
 
   module _ {T X : Type 0} (entry : Entry K T X) where
     -- the call x with the record t gives out the n-th smallest permitted counter, the serial number with that counter, and the host's key for it
@@ -60,8 +60,8 @@ module _ {K : Type 0} (device : Device K) (derivation serial : List ℕ) where
       pub answered : entry.Answered (done given) t x
       pub counter : entry.counter x ≡ given.counter
       pub nth : Nth n given.counter
-      pub serial-number : given.serial ≡ with_counter serial given.counter
-      pub host : hostKey device derivation given.serial ≡ done given.key
+      pub serial_number : given.serial ≡ with_counter serial given.counter
+      pub host : host_key device derivation given.serial ≡ done given.key
 
     -- it is refused, and changes nothing
     pub record Refused (t : T) (x : X) : Type 0 where
@@ -85,17 +85,17 @@ module _ {K : Type 0} (device : Device K) (derivation serial : List ℕ) where
       pub state : StateDemand given (entry.state t)
 
     -- the counters that calls gave out, in order; so its length is how many keys were given
-    abbrev pub countersGiven : List X → List ℕ
-    countersGiven = counters_of entry.number entry.counter
+    abbrev pub counters_given : List X → List ℕ
+    counters_given = counters_of entry.number entry.counter
 
     -- the list of calls that starts from the record t
     pub record Demand (t : T) (calls : List X) : Type 0 where
       -- each call x of the list, with the calls before it
-      pub each-call : (earlier : List X) (x : X) (later : List X) → calls ≡ earlier ++ (x ∷ later)
-          → CallDemand (length (countersGiven earlier)) (recordAfter entry.leaves t earlier) x
+      pub each_call : (earlier : List X) (x : X) (later : List X) → calls ≡ earlier ++ (x ∷ later)
+          → CallDemand (length (counters_given earlier)) (record_after entry.leaves t earlier) x
       -- the record after the loading, when there are none before, and after each call
-      pub each-record : (earlier later : List X) → calls ≡ earlier ++ later
-          → RecordDemand (countersGiven earlier) (recordAfter entry.leaves t earlier)
+      pub each_record : (earlier later : List X) → calls ≡ earlier ++ later
+          → RecordDemand (counters_given earlier) (record_after entry.leaves t earlier)
 
 -- the promise of a call with a record
 abbrev pub Promise : {K T X : Type 0} → Entry K T X → T → X → Type 0

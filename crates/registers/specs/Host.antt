@@ -23,24 +23,24 @@ derivable derivation serial r =
 
 module _ {K : Type 0} (device : Device K) (derivation serial : List ℕ) where
   -- the initial key
-  abbrev pub initialOf : K
-  initialOf = device.initial derivation (cleared_head serial)
+  abbrev pub initial_of : K
+  initial_of = device.initial derivation (cleared_head serial)
 
   -- the register key of the counter c
   abbrev pub key_of : ℕ → K
-  key_of c = register_key device.one_way initialOf (cleared_tail serial) c
+  key_of c = register_key device.one_way initial_of (cleared_tail serial) c
 
   -- the bytes of the key given out with the counter c
-  abbrev pub givenKey : ℕ → List ℕ
-  givenKey c = device.bytes (device.variant (key_of c))
+  abbrev pub given_key : ℕ → List ℕ
+  given_key c = device.bytes (device.variant (key_of c))
 
   -- the bytes of the initial key, or the refusal
-  unfoldable pub initialKey : Result (List ℕ)
-  initialKey = derivable derivation serial (done (device.bytes initialOf))
+  unfoldable pub initial_key : Result (List ℕ)
+  initial_key = derivable derivation serial (done (device.bytes initial_of))
 
   -- the bytes of the host's key for the counter in the serial number, or the refusal: that of the initial key, then 10
-  unfoldable pub hostKey : Result (List ℕ)
-  hostKey =
+  unfoldable pub host_key : Result (List ℕ)
+  host_key =
       derivable derivation serial
       (require (counter_permitted (counter_of serial)) bad_counter
-      (done (givenKey (counter_of serial))))
+      (done (given_key (counter_of serial))))

@@ -64,8 +64,8 @@ module _ {K : Type 0} (device : Device K) where
   key_at s b = get_or s.keys b device.empty
 
   -- twenty-one empty registers
-  abbrev pub noKeys : List K
-  noKeys = replicate 21 device.empty
+  abbrev pub no_keys : List K
+  no_keys = replicate 21 device.empty
 
   -- one step from the key of the counter c: bit b is set in the data too. `tail` is the end of the serial number without the counter
   abbrev pub stepped : K → ℕ → ℕ → ℕ → K
@@ -74,11 +74,11 @@ module _ {K : Type 0} (device : Device K) where
   -- the state as it is loaded: counter 1 is next, and every register is filled from the initial key, the key of the counter 0
   unfoldable pub loaded : K → List ℕ → State K
   loaded initial serial =
-      state_in (fill 21 (stepped initial (cleared_tail serial) 0) noKeys) (with_counter serial 0) (position_at 1)
+      state_in (fill 21 (stepped initial (cleared_tail serial) 0) no_keys) (with_counter serial 0) (position_at 1)
 
   -- the key of the next counter: it stands in the register of the counter's lowest one bit
-  abbrev pub readyKey : State K → K
-  readyKey s = key_at s (lowest_place s.counter)
+  abbrev pub ready_key : State K → K
+  ready_key s = key_at s (lowest_place s.counter)
 
   -- register l is emptied
   abbrev pub emptied : ℕ → List K → List K
@@ -94,8 +94,8 @@ module _ {K : Type 0} (device : Device K) where
   unfoldable pub spent : State K → State K
   spent s =
       let p = position_after s.counter in
-      state_in (pick p.exhausted noKeys (renewed s.keys (cleared_tail s.serial) s.counter)) s.serial p
+      state_in (pick p.exhausted no_keys (renewed s.keys (cleared_tail s.serial) s.counter)) s.serial p
 
   -- the all-zero state, not exhausted
-  abbrev pub zeroState : State K
-  zeroState = record { keys = noKeys; filled = 0; serial = replicate 10 0; counter = 0; exhausted = false }
+  abbrev pub zero_state : State K
+  zero_state = record { keys = no_keys; filled = 0; serial = replicate 10 0; counter = 0; exhausted = false }

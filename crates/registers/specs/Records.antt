@@ -4,23 +4,23 @@ use Rattle.lent.specs.Result.{done}
 use Rattle.registers.specs.Device.{Device}
 use Rattle.registers.specs.Machine.{State}
 use Rattle.registers.specs.Rule.{Valid}
-use Rattle.registers.specs.Host.{initialKey}
-use Rattle.registers.specs.Calls.{Call, loading, nextKey, Keeps, roomy}
+use Rattle.registers.specs.Host.{initial_key}
+use Rattle.registers.specs.Calls.{Call, loading, next_key, Keeps, roomy}
 use Rattle.registers.specs.Demand.{Entry}
 
 module _ {K : Type 0} (device : Device K) where
   -- the state that a loading gives with the host's initial key for the serial number
   pub record LoadedFrom (derivation serial : List ℕ) (s : State K) : Type 0 where
     pub key : List ℕ
-    pub initial : initialKey device derivation serial ≡ done key
+    pub initial : initial_key device derivation serial ≡ done key
     pub load : loading device key serial ≡ done s
 
-  abbrev pub byRecord : Entry K (State K) (Call K)
-  byRecord = record {
+  abbrev pub by_record : Entry K (State K) (Call K)
+  by_record = record {
     state = λ s. s;
     Valid = Valid device;
     Loaded = LoadedFrom;
-    answer = nextKey device;
+    answer = next_key device;
     Answered = Keeps device;
     enough = roomy device;
     number = λ x. x.number;

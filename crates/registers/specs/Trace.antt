@@ -11,9 +11,9 @@ module _ {T X : Type 0} (leaves : X → T) where
     call : {t : T} {x : X} {later : List X} → Promise t x → Trace Promise (leaves x) later → Trace Promise t (x ∷ later)
 
   -- the record that they leave
-  unfoldable pub recordAfter : T → List X → T
-  recordAfter t [] = t
-  recordAfter t (x ∷ later) = recordAfter (leaves x) later
+  unfoldable pub record_after : T → List X → T
+  record_after t [] = t
+  record_after t (x ∷ later) = record_after (leaves x) later
 
 -- the counters that they gave out, in order: each done call's own. `number` is the number that a call answers
 unfoldable pub counters_of : {X : Type 0} → (X → ℕ) → (X → ℕ) → List X → List ℕ

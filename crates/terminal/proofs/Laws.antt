@@ -3,14 +3,14 @@ use mathlib.Core.Path.{◌≡◌, ap}
 use Prim.Native.Nat.{ℕ}
 use Rattle.registers.specs.Machine.{State, position_of}
 use Rattle.registers.specs.Demand.{Demand3}
-use Rattle.registers.specs.Records.{byRecord}
+use Rattle.registers.specs.Records.{by_record}
 use Rattle.registers.proofs.Laws as registers
 use Rattle.host.specs.SingleLength.{single_length}
 use Rattle.host.proofs.Laws.{lawful}
 use Rattle.terminal.specs.View.{view}
 use Rattle.terminal.specs.declared.state.Terminal.{Terminal}
 
-pub demand3 : Demand3 single_length (byRecord single_length)
+pub demand3 : Demand3 single_length (by_record single_length)
 demand3 = registers.demand3 single_length lawful
 
 -- records with the same state are the same

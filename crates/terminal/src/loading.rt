@@ -1,7 +1,7 @@
 // Loading a terminal.
 ghost use Rattle.std.specs.Prelude.{◌≡◌};
 ghost use Rattle.lent.specs.Refusals.{number_of, size};
-ghost use Rattle.registers.specs.Machine.{zeroState};
+ghost use Rattle.registers.specs.Machine.{zero_state};
 ghost use Rattle.registers.specs.Calls.{Load};
 ghost use Rattle.host.specs.SingleLength.{single_length};
 ghost use Rattle.terminal.specs.View.{view};
@@ -19,7 +19,7 @@ pub struct Loaded {
 
 // The refusal of a loading.
 fn refused() -> Loaded
-    ensures { (result.number ≡ number_of size) × (view result.terminal ≡ zeroState single_length) }
+    ensures { (result.number ≡ number_of size) × (view result.terminal ≡ zero_state single_length) }
 {
     Loaded {
         number: lent::SIZE,

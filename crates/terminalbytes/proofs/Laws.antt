@@ -2,8 +2,8 @@
 use Rattle.registers.specs.Demand.{Demand3}
 use Rattle.host.specs.SingleLength.{single_length}
 use Rattle.host.proofs.Laws.{lawful}
-use Rattle.recordbytes.specs.Records.{byBytes}
-use Rattle.recordbytes.proofs.Theorem.{bytes-demand3}
+use Rattle.recordbytes.specs.Records.{by_bytes}
+use Rattle.recordbytes.proofs.Theorem.{bytes_demand3}
 
-pub demand3 : Demand3 single_length (byBytes single_length)
-demand3 = bytes-demand3 single_length lawful
+pub demand3 : Demand3 single_length (by_bytes single_length)
+demand3 = bytes_demand3 single_length lawful

@@ -3,7 +3,7 @@ ghost use Rattle.std.specs.Prelude.{◌≡◌, length};
 ghost use Rattle.lent.specs.Private.{Appends};
 ghost use Rattle.host.specs.SingleLength.{single_length};
 ghost use Rattle.terminal.specs.View.{view};
-ghost use Rattle.recordbytes.specs.RecordBytes.{recordSize, recordBytes, registerBytes, registersOf, state_of};
+ghost use Rattle.recordbytes.specs.RecordBytes.{record_size, record_bytes, register_bytes, registers_of, state_of};
 
 use terminal::Terminal;
 
@@ -11,7 +11,7 @@ use terminal::Terminal;
 
 // Writes the registers, 8 bytes each.
 fn put_registers(keys: [u64; 21], bytes: &mut [u8]) -> usize
-    ensures { Appends (registerBytes single_length keys) bytes.old bytes.new 0 result }
+    ensures { Appends (register_bytes single_length keys) bytes.old bytes.new 0 result }
 {
     let mut n: usize = 0;
     let mut i: usize = 0;
@@ -25,8 +25,8 @@ fn put_registers(keys: [u64; 21], bytes: &mut [u8]) -> usize
 
 // Writes a record.
 pub(crate) fn put_record(t: Terminal, bytes: &mut [u8])
-    requires { length bytes.old ≡ recordSize single_length }
-    ensures { bytes.new ≡ recordBytes single_length (view t) }
+    requires { length bytes.old ≡ record_size single_length }
+    ensures { bytes.new ≡ record_bytes single_length (view t) }
 {
     let keys = t.keys;
     let serial = t.serial;
@@ -39,7 +39,7 @@ pub(crate) fn put_record(t: Terminal, bytes: &mut [u8])
 // The registers, 8 bytes each.
 fn registers_of(bytes: &[u8]) -> [u64; 21]
     requires { length bytes.now ≡ 168 }
-    ensures { result ≡ registersOf single_length 21 bytes.now }
+    ensures { result ≡ registers_of single_length 21 bytes.now }
 {
     let mut keys = [0u64; 21];
     let mut i: usize = 0;
@@ -52,7 +52,7 @@ fn registers_of(bytes: &[u8]) -> [u64; 21]
 
 // Reads a record.
 pub(crate) fn terminal_of(bytes: &[u8]) -> Terminal
-    requires { length bytes.now ≡ recordSize single_length }
+    requires { length bytes.now ≡ record_size single_length }
     ensures { view result ≡ state_of single_length bytes.now }
 {
     let keys = registers_of(&bytes[..168]);

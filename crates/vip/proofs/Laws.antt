@@ -12,10 +12,10 @@ use Rattle.lent.specs.Choice.{both, all}
 use Rattle.lent.specs.Frames.{framed_text}
 use Rattle.lent.specs.ReadsBack.{Block, ReadsBack}
 use Rattle.lent.specs.Result.{done}
-use Rattle.lent.proofs.Frames.{framed-length, framed-all, framed-back}
+use Rattle.lent.proofs.Frames.{framed_length, framed_all, framed_back}
 use Rattle.lent.proofs.Laws.{both_true, between_true, below}
 use Rattle.lent.proofs.Lists.{map_all, all_weaker}
-use Rattle.lent.proofs.ReadsBack.{made-reads-back}
+use Rattle.lent.proofs.ReadsBack.{made_reads_back}
 use Rattle.keyentry.specs.Hexadecimal.{text_of}
 use Rattle.keyentry.specs.KeyEntry.{text_bytes}
 use Rattle.keyentry.proofs.Texts.{text_read, bytes_length, bytes_below}
@@ -35,40 +35,40 @@ module _ (digits : List ℕ) (h : permitted digits ≡ true) where
 
   text_length : length (block_text digits) ≡ 32
   unfolding block_text
-  text_length = framed-length 32 0x46 digits (omega (arith, short))
+  text_length = framed_length 32 0x46 digits (omega (arith, short))
 
-  text-capital : all capital (block_text digits) ≡ true
+  text_capital : all capital (block_text digits) ≡ true
   unfolding block_text capital hexadecimal capitalized
-  text-capital =
-      framed-all 32 0x46 digits (omega (arith, short)) capital digit_capital
+  text_capital =
+      framed_all 32 0x46 digits (omega (arith, short)) capital digit_capital
       (all_weaker digit capital digit_capital digits (both_true (vip_size digits) (all digit digits) h).1) refl
 
-  text-hexadecimal : all hexadecimal (block_text digits) ≡ true
+  text_hexadecimal : all hexadecimal (block_text digits) ≡ true
   unfolding capital
-  text-hexadecimal =
-      all_weaker capital hexadecimal (λ x e. (both_true (hexadecimal x) (eqb (capitalized x) x) e).0) (block_text digits) text-capital
+  text_hexadecimal =
+      all_weaker capital hexadecimal (λ x e. (both_true (hexadecimal x) (eqb (capitalized x) x) e).0) (block_text digits) text_capital
 
   -- the bytes of its half_bytes have these half_bytes
-  text-back : text_of 65 (vip_block digits) ≡ block_text digits
+  text_back : text_of 65 (vip_block digits) ≡ block_text digits
   unfolding vip_block capital
-  text-back =
-      sym (text_read (block_text digits) 16 text_length text-hexadecimal)
-      ∙ map_all capital capitalized (λ x. x) (λ x e. eqb-true (capitalized x) x (both_true (hexadecimal x) (eqb (capitalized x) x) e).1) (block_text digits) text-capital
+  text_back =
+      sym (text_read (block_text digits) 16 text_length text_hexadecimal)
+      ∙ map_all capital capitalized (λ x. x) (λ x e. eqb-true (capitalized x) x (both_true (hexadecimal x) (eqb (capitalized x) x) e).1) (block_text digits) text_capital
       ∙ map-id (block_text digits)
 
   -- making it is not refused
-  pub text-bytes : text_bytes (block_text digits) ≡ done (vip_block digits)
+  pub text_bytes_lem : text_bytes (block_text digits) ≡ done (vip_block digits)
   unfolding text_bytes vip_block
-  text-bytes = simp (text_length, text-hexadecimal)
+  text_bytes_lem = simp (text_length, text_hexadecimal)
 
-  pub vip-block : Block 16 (vip_block digits)
+  pub vip_block_lem : Block 16 (vip_block digits)
   unfolding vip_block
-  vip-block = record { size = bytes_length (block_text digits) 16 text_length; bytes = bytes_below (block_text digits) text-hexadecimal }
+  vip_block_lem = record { size = bytes_length (block_text digits) 16 text_length; bytes = bytes_below (block_text digits) text_hexadecimal }
 
-  vip-back : framed_text (text_of 65 (vip_block digits)) ≡ digits
+  vip_back : framed_text (text_of 65 (vip_block digits)) ≡ digits
   unfolding block_text
-  vip-back = rw text-back (framed-back 32 0x46 digits (omega (arith, short)) (omega (arith, short)))
+  vip_back = rw text_back (framed_back 32 0x46 digits (omega (arith, short)) (omega (arith, short)))
 
 pub read_back : ReadsBack 16 permitted make read
 unfolding make read
-read_back = made-reads-back 16 11 19 digit vip_block vip-block (λ block. framed_text (text_of 65 block)) vip-back
+read_back = made_reads_back 16 11 19 digit vip_block vip_block_lem (λ block. framed_text (text_of 65 block)) vip_back

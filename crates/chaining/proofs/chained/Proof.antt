@@ -30,8 +30,8 @@ loop-again c =
     let l = c.before.before.before.before.loop in
     let s = c.before.before.before.before.before.before.before.args.s.now in
     let keys = c.before.before.before.before.before.schedule in
-    let block : c.before.word-of.result ≡ word (drop (8 * l.i) s) = c.before.word-of.ensures ∙ ap word (part_rest (8 * l.i) s) in
-    let next : c.encrypt-with.result ≡ encrypted_with keys.result.keys (bit_xor l.h c.before.word-of.result) = c.encrypt-with.ensures in
+    let block : c.before.word_of_lem.result ≡ word (drop (8 * l.i) s) = c.before.word_of_lem.ensures ∙ ap word (part_rest (8 * l.i) s) in
+    let next : c.encrypt-with.result ≡ encrypted_with keys.result.keys (bit_xor l.h c.before.word_of_lem.result) = c.encrypt-with.ensures in
     (omega arith, rw (add-one l.i, next, keys.ensures, encrypted_with_lem, l.invariant.1, block))
 
 returns : tie.Need-returns invariant-loop decreases-loop

@@ -13,8 +13,8 @@ use Rattle.lent.specs.Result.{over}
 use Rattle.lent.proofs.Laws.{drop_next}
 use Rattle.cleaning.specs.Cleaning.{cleaned, kept}
 use Rattle.cleaning.specs.Counts.{dropped_from}
-use Rattle.cleaning.proofs.Pass.{pass, cleaned_pass, pass_space, pass_kept, pass-dropped, owed_pushed, space_kept}
-use Rattle.cleaning.proofs.Counting.{nothing_dropped, none_dropped, one-dropped}
+use Rattle.cleaning.proofs.Pass.{pass, cleaned_pass, pass_space, pass_kept, pass_dropped, owed_pushed, space_kept}
+use Rattle.cleaning.proofs.Counting.{nothing_dropped, none_dropped, one_dropped}
 use Rattle.cleaning.proofs.write_cleaned.Statement.{statement}
 use Rattle.cleaning.proofs.write_cleaned.Tie as tie
 
@@ -118,8 +118,8 @@ loop-again-3 c =
       written = l.invariant.written;
       count = l.invariant.count;
       memory = l.invariant.memory;
-      rest = next l.invariant _ (omega arith) (pass-dropped x _ _ _ n k);
-      dropped = omega (arith, l.invariant.dropped, ap dropped_from (drop_next text l.i (omega arith)), one-dropped x (drop (l.i + 1) text) k);
+      rest = next l.invariant _ (omega arith) (pass_dropped x _ _ _ n k);
+      dropped = omega (arith, l.invariant.dropped, ap dropped_from (drop_next text l.i (omega arith)), one_dropped x (drop (l.i + 1) text) k);
       few = omega arith;
       not-ahead = omega arith;
       one = l.invariant.one;

@@ -40,7 +40,7 @@ returns-3 c =
     let e = w.before.before.before in
     let a = e.before.before.before.before.before.args in
     let yes = sym e.before.key-sized.ensures ∙ not-false _ e.if2.false in
-    let changed = rw (w.before.before.word-of.ensures, w.before.right-half.ensures, w.word-of2.ensures) at c.before.changed-word.ensures ∙ under a.direction a.key.now _ in
+    let changed = rw (w.before.before.word_of_lem.ensures, w.before.right-half.ensures, w.word-of2.ensures) at c.before.changed-word.ensures ∙ under a.direction a.key.now _ in
     simp (eq-eqb _ _ e.before.before.if1.false, yes, ← changed) c.block_of_lem.ensures
 
 pub changed_block_spec : {M : Type 1} → statement M

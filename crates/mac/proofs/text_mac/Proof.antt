@@ -8,7 +8,7 @@ use lib.ListN.{length, take}
 use lib.Seq.{length-take-le}
 use Rattle.lent.specs.Refusals.{size, empty_text}
 use Rattle.lent.specs.Result.{done}
-use Rattle.lent.proofs.Results.{refuses_then, written-refused, written-done}
+use Rattle.lent.proofs.Results.{refuses_then, written_refused, written_done}
 use Rattle.cleaning.specs.Cleaning.{clean_text}
 use Rattle.cleaning.proofs.Laws.{clean_fits}
 use Rattle.cleaning.proofs.Answering.{text_counted}
@@ -28,14 +28,14 @@ returns-2 c =
     let a = c.before.before.before.before.before.before.before.before.args in
     refused_alone c.refused-mac2.ensures
     (rw (eq-eqb _ _ c.before.before.before.before.before.if1.false)
-    (refuses_then (cleaned_mac a.key.now) (written-refused c.before.before.before.clean.ensures.written (clean_fits a.text.now) c.before.if2.true)))
+    (refuses_then (cleaned_mac a.key.now) (written_refused c.before.before.before.clean.ensures.written (clean_fits a.text.now) c.before.if2.true)))
 
 -- the cleaned text stands at the start of the room
 abbrev text : tie.Else2 → List ℕ
 text c = take c.before.before.clean.result.length c.before.before.clean.new.1.0
 
 cleaned : (c : tie.Else2) → (clean_text c.before.before.before.before.before.before.before.args.text.now ≡ done (text c)) × (c.before.before.clean.result.length ≤ length c.before.before.clean.new.1.0)
-cleaned c = written-done c.before.before.clean.ensures.written c.if2.false
+cleaned c = written_done c.before.before.clean.ensures.written c.if2.false
 
 returns-3 : tie.Need-returns-3
 unfolding text_mac cleaned_mac

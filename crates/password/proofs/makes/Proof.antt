@@ -2,7 +2,7 @@
 use borrow.Author.Rules.{rules}
 use mathlib.Core.Path.{refl, ◌∙◌}
 use Rattle.lent.specs.Characters.{graphic}
-use Rattle.lent.proofs.ReadsBack.{made-gives, refused-gives}
+use Rattle.lent.proofs.ReadsBack.{made_gives, refused_gives}
 use Rattle.password.specs.Password.{password_block, make}
 use Rattle.password.proofs.Laws.{password_block_lem}
 use Rattle.password.proofs.makes.Statement.{statement}
@@ -13,7 +13,7 @@ unfolding make
 returns c =
     let m = c.before.before.before in
     let a = m.before.before.before.before.args in
-    refused-gives 24 6 20 graphic password_block password_block_lem a.password.now a.block.now refl m.make.ensures c.if1.true
+    refused_gives 24 6 20 graphic password_block password_block_lem a.password.now a.block.now refl m.make.ensures c.if1.true
 
 returns-2 : tie.Need-returns-2
 unfolding make
@@ -21,7 +21,7 @@ returns-2 c =
     let m = c.before.before.before.before.before in
     let a = m.before.before.before.before.args in
     c.same.ensures
-    ∙ made-gives 24 6 20 graphic password_block password_block_lem a.password.now a.block.now refl m.make.ensures c.before.before.if1.false
+    ∙ made_gives 24 6 20 graphic password_block password_block_lem a.password.now a.block.now refl m.make.ensures c.before.before.if1.false
 
 pub makes_spec : {M : Type 1} → statement M
 makes_spec =

@@ -4,7 +4,7 @@ use mathlib.Core.Path.{◌≡◌}
 use native.Mathlib.Omega.{arith}
 use lib.ListN.{length}
 use Rattle.lent.specs.Characters.{two_digits}
-use Rattle.lent.proofs.Frames.{framed-written}
+use Rattle.lent.proofs.Frames.{framed_written}
 use Rattle.password.specs.Password.{password_block}
 use Rattle.password.proofs.password_block.Statement.{statement}
 use Rattle.password.proofs.password_block.Tie as tie
@@ -16,7 +16,7 @@ returns c =
     let d = first.before.before.before in
     let s = d.before.before in
     let said : d.two_digits.result ≡ two_digits (length s.args.password.now) = d.two_digits.ensures in
-    framed-written 24 0xFF s.args.password.now (omega (arith, s.requires)) (rw said at first.append.ensures) c.before.append2.ensures
+    framed_written 24 0xFF s.args.password.now (omega (arith, s.requires)) (rw said at first.append.ensures) c.before.append2.ensures
 
 pub password_block_spec : {M : Type 1} → statement M
 password_block_spec =

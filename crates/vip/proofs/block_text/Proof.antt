@@ -4,7 +4,7 @@ use mathlib.Core.Path.{◌≡◌}
 use native.Mathlib.Omega.{arith}
 use lib.ListN.{length}
 use Rattle.lent.specs.Characters.{two_digits}
-use Rattle.lent.proofs.Frames.{framed-written}
+use Rattle.lent.proofs.Frames.{framed_written}
 use Rattle.vip.specs.Vip.{block_text}
 use Rattle.vip.proofs.block_text.Statement.{statement}
 use Rattle.vip.proofs.block_text.Tie as tie
@@ -16,7 +16,7 @@ returns c =
     let d = first.before.before.before in
     let s = d.before.before in
     let said : d.two_digits.result ≡ two_digits (length s.args.digits.now) = d.two_digits.ensures in
-    framed-written 32 0x46 s.args.digits.now (omega (arith, s.requires)) (rw said at first.append.ensures) c.before.append2.ensures
+    framed_written 32 0x46 s.args.digits.now (omega (arith, s.requires)) (rw said at first.append.ensures) c.before.append2.ensures
 
 pub block_text_spec : {M : Type 1} → statement M
 block_text_spec =

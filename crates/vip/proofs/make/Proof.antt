@@ -10,7 +10,7 @@ use Rattle.lent.specs.Refusals.{size, character}
 use Rattle.lent.proofs.Laws.{between_true}
 use Rattle.lent.proofs.Results.{refused_answer}
 use Rattle.vip.specs.Vip.{vip_size, permitted, make}
-use Rattle.vip.proofs.Laws.{text-bytes}
+use Rattle.vip.proofs.Laws.{text_bytes_lem}
 use Rattle.vip.proofs.make.Statement.{statement}
 use Rattle.vip.proofs.make.Tie as tie
 
@@ -44,7 +44,7 @@ returns-3 c =
     let e1 = e2.before.before in
     let digits = e1.before.before.before.before.args.digits.now in
     let h : permitted digits ≡ true = rw (long e1) (numerals e2) in
-    simp (long e1, numerals e2, ← text-bytes digits h, ← b.block-text.ensures) c.before.before.text-bytes.ensures
+    simp (long e1, numerals e2, ← text_bytes_lem digits h, ← b.block-text.ensures) c.before.before.text_bytes_lem.ensures
 
 pub make_spec : {M : Type 1} → statement M
 make_spec =

@@ -2,9 +2,9 @@
 use borrow.Author.Rules.{rules}
 use mathlib.Core.Path.{refl, ◌∙◌}
 use Rattle.lent.specs.Characters.{digit}
-use Rattle.lent.proofs.ReadsBack.{made-gives, refused-gives}
+use Rattle.lent.proofs.ReadsBack.{made_gives, refused_gives}
 use Rattle.vip.specs.Vip.{vip_block, make}
-use Rattle.vip.proofs.Laws.{vip-block}
+use Rattle.vip.proofs.Laws.{vip_block_lem}
 use Rattle.vip.proofs.makes.Statement.{statement}
 use Rattle.vip.proofs.makes.Tie as tie
 
@@ -13,7 +13,7 @@ unfolding make
 returns c =
     let m = c.before.before.before in
     let a = m.before.before.before.before.args in
-    refused-gives 16 11 19 digit vip_block vip-block a.digits.now a.block.now refl m.make.ensures c.if1.true
+    refused_gives 16 11 19 digit vip_block vip_block_lem a.digits.now a.block.now refl m.make.ensures c.if1.true
 
 returns-2 : tie.Need-returns-2
 unfolding make
@@ -21,7 +21,7 @@ returns-2 c =
     let m = c.before.before.before.before.before in
     let a = m.before.before.before.before.args in
     c.same.ensures
-    ∙ made-gives 16 11 19 digit vip_block vip-block a.digits.now a.block.now refl m.make.ensures c.before.before.if1.false
+    ∙ made_gives 16 11 19 digit vip_block vip_block_lem a.digits.now a.block.now refl m.make.ensures c.before.before.if1.false
 
 pub makes_spec : {M : Type 1} → statement M
 makes_spec =

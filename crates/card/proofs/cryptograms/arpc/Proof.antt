@@ -4,7 +4,7 @@ use borrow.Author.Tests.{eq-eqb, ne_eqb}
 use mathlib.Core.Path.{refl}
 use Rattle.lent.specs.Refusals.{size}
 use Rattle.lent.proofs.Results.{refused_block}
-use Rattle.lent.proofs.Parts.{from-zeros-after}
+use Rattle.lent.proofs.Parts.{from_zeros_after}
 use Rattle.card.specs.Cryptograms.{arpc_word}
 use Rattle.card.specs.Entries.{arpc}
 use Rattle.card.proofs.cryptograms.arpc.Statement.{statement}
@@ -36,8 +36,8 @@ returns-4 c =
       eq-eqb _ _ b.before.if1.false,
       eq-eqb _ _ b.if2.false,
       eq-eqb _ _ w.before.if3.false,
-      from-zeros-after 256 8,
-      ← w.word-of.ensures,
+      from_zeros_after 256 8,
+      ← w.word_of_lem.ensures,
       ← c.before.before.word-of2.ensures,
       ← c.before.triple-encrypt.ensures,
     ) c.block_of_lem.ensures

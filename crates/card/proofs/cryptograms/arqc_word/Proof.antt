@@ -15,7 +15,7 @@ unfolding arqc_word mac_algorithm3
 returns c =
     let k = c.before.before.before.before.before in
     rw (
-      ← k.before.word-of.ensures,
+      ← k.before.word_of_lem.ensures,
       ← k.right-half.ensures,
       ← c.before.before.before.before.padded-bytes.ensures,
       ← c.before.before.chained.ensures,

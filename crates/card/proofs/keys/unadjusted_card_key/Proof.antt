@@ -29,7 +29,7 @@ returns-3 c =
     let a = d.before.before.before.before.args in
     let r = d.derivation-data.ensures in
     let e = answered_done 8 (derivation_data a.card.now a.sequence) r c.before.before.before.before.if2.false in
-    simp (eq-eqb _ _ d.before.if1.false, e, ← c.before.word-of.ensures) c.derived-key.ensures
+    simp (eq-eqb _ _ d.before.if1.false, e, ← c.before.word_of_lem.ensures) c.derived-key.ensures
 
 pub unadjusted_card_key_spec : {M : Type 1} → statement M
 unadjusted_card_key_spec =

@@ -11,7 +11,7 @@ use lib.Seq.{drop-cons, take_all, take-suc-set}
 use Rattle.cipher.specs.Private.{places, from_windows}
 use Rattle.cipher.specs.Schedule.{round_keys}
 use Rattle.cipher.specs.Tables.{permuted_choice1}
-use Rattle.cipher.proofs.Permutation.{permuted-lt}
+use Rattle.cipher.proofs.Permutation.{permuted_lt}
 use Rattle.cipher.proofs.Range.{entry_range}
 use Rattle.cipher.proofs.RoundKeys.{keys_from_windows}
 use Rattle.cipher.proofs.key_schedule.round_keys.Statement.{statement}
@@ -26,7 +26,7 @@ decreases-loop key words rotated keys₀ i₀ keys i = 16 - i
 
 windows-requires : tie.Need-windows-requires invariant-loop decreases-loop
 windows-requires c κs =
-    (rw c.before.permuted-choice-1.ensures (permuted-lt 64 c.before.before.args.key permuted_choice1), search rules)
+    (rw c.before.permuted-choice-1.ensures (permuted_lt 64 c.before.before.args.key permuted_choice1), search rules)
 
 loop-holds : tie.Need-loop-init invariant-loop decreases-loop
 loop-holds c =

@@ -10,7 +10,7 @@ use lib.ListN.{length, get_or, take, drop, drop_of_length-le, length-set}
 use lib.Seq.{drop-cons, take_all, take-suc-set}
 use Rattle.cipher.specs.Schedule.{keys_from, round_keys}
 use Rattle.cipher.specs.Tables.{left_shifts, permuted_choice1}
-use Rattle.cipher.proofs.Permutation.{permuted-lt}
+use Rattle.cipher.proofs.Permutation.{permuted_lt}
 use Rattle.cipher.proofs.Range.{entry_range}
 use Rattle.cipher.proofs.printed.round_keys.Statement.{statement}
 use Rattle.cipher.proofs.printed.round_keys.Tie as tie
@@ -25,7 +25,7 @@ decreases-loop key halves c₀ d₀ keys₀ i₀ c d keys i = 16 - i
 loop-holds : tie.Need-loop-init invariant-loop decreases-loop
 unfolding round_keys
 loop-holds c =
-    let h = rw (← c.permuted-choice-1.ensures) at (permuted-lt 64 c.before.args.key permuted_choice1) in
+    let h = rw (← c.permuted-choice-1.ensures) at (permuted_lt 64 c.before.args.key permuted_choice1) in
     (omega arith, omega arith, omega arith, refl, rw c.permuted-choice-1.ensures)
 
 -- C and D are rotated at most two places

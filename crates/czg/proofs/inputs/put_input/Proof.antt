@@ -21,7 +21,7 @@ unfolding input_bytes
 returns-2 c =
     let i = c.before.before.before.before.before.before in
     let k = i.before.before.before.before in
-    simp (sym i.same.ensures ∙ c.before.before.before.before.before.if1.false, not-true k.args.characters c.before.before.before.before.if2.true) c.before.before.text-bytes.ensures
+    simp (sym i.same.ensures ∙ c.before.before.before.before.before.if1.false, not-true k.args.characters c.before.before.before.before.if2.true) c.before.before.text_bytes_lem.ensures
 
 -- what starts with `hex:` has four characters
 four : (c : tie.Then3) → 4 ≤ length c.before.before.before.before.before.before.before.before.before.args.part.now

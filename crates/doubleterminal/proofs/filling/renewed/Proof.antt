@@ -2,7 +2,7 @@
 use borrow.Author.Rules.{rules}
 use Prim.Native.Nat.{◌<◌}
 use native.Mathlib.Omega.{arith}
-use Rattle.registers.proofs.Laws.{place_lt, place_room, renewed-few, renewed-full}
+use Rattle.registers.proofs.Laws.{place_lt, place_room, renewed_few, renewed_full}
 use Rattle.doublehost.specs.DoubleLength.{double_length}
 use Rattle.doubleterminal.proofs.filling.renewed.Statement.{statement}
 use Rattle.doubleterminal.proofs.filling.renewed.Tie as tie
@@ -32,7 +32,7 @@ returns : tie.Need-returns
 returns c =
     let l = c.before.before.before.before in
     let a = l.before.args in
-    rw (renewed-few double_length a.t1 a.tail a.c c.before.before.before.if1.true, c.no_key.ensures, c.before.filled-from.ensures, l.lowest-place.ensures)
+    rw (renewed_few double_length a.t1 a.tail a.c c.before.before.before.if1.true, c.no_key.ensures, c.before.filled-from.ensures, l.lowest-place.ensures)
 
 mul-kept : tie.Need-overflow-mul-kept
 mul-kept c = omega (arith, place c.before.before)
@@ -44,7 +44,7 @@ returns-2 : tie.Need-returns-2
 returns-2 c =
     let l = c.before.before in
     let a = l.before.args in
-    rw (renewed-full double_length a.t1 a.tail a.c c.before.if1.false, c.no-key2.ensures, l.lowest-place.ensures)
+    rw (renewed_full double_length a.t1 a.tail a.c c.before.if1.false, c.no-key2.ensures, l.lowest-place.ensures)
 
 pub renewed_spec : {M : Type 1} → statement M
 renewed_spec =

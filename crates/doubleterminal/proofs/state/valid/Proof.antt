@@ -5,7 +5,7 @@ use mathlib.Core.Path.{◌≡◌, sym, ◌∙◌}
 use mathlib.Core.Bool.{false≢true}
 use lib.ListN.{length}
 use Rattle.lent.proofs.Lists.{length_mapped}
-use Rattle.registers.proofs.Laws.{checked-valid, valid-checked}
+use Rattle.registers.proofs.Laws.{checked_valid, valid_checked}
 use Rattle.doublehost.specs.DoubleLength.{double_length}
 use Rattle.doubleterminal.specs.View.{view}
 use Rattle.doubleterminal.proofs.state.valid.Statement.{statement}
@@ -16,7 +16,7 @@ returns c = (λ e. absurd (false≢true e), λ v. absurd (c.if1.true (c.before.c
 
 returns-2 : tie.Need-returns-2
 returns-2 c =
-    let checked = valid-checked double_length (view c.before.before.before.before.before.before.args.t) in
+    let checked = valid_checked double_length (view c.before.before.before.before.before.before.args.t) in
     (λ e. absurd (false≢true e), λ v. absurd (false≢true (sym (not-true _ c.if2.true) ∙ c.before.in_order.ensures.1 (checked v).order)))
 
 returns-3 : tie.Need-returns-3
@@ -25,14 +25,14 @@ returns-3 c =
     let t = k.before.before.before.before.args.t in
     let serial_size : length t.serial ≡ 10 = search rules in
     let size : length t.keys ≡ 21 = search (rules, length_mapped) in (
-      λ e. checked-valid double_length (view t) (record {
+      λ e. checked_valid double_length (view t) (record {
         serial_size = serial_size;
         clear = sym k.before.counter-of.ensures ∙ k.if1.false;
         size = size;
         order = c.before.before.in_order.ensures.0 (not-false _ c.before.if2.false);
         empties = c.empties.ensures.0 e;
       }),
-      λ v. c.empties.ensures.1 (valid-checked double_length (view t) v).empties,
+      λ v. c.empties.ensures.1 (valid_checked double_length (view t) v).empties,
     )
 
 pub valid_spec : {M : Type 1} → statement M

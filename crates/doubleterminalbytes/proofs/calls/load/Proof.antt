@@ -2,14 +2,14 @@
 use borrow.Author.Rules.{rules}
 use Rattle.lent.proofs.Results.{refused_answer}
 use Rattle.doublehost.specs.DoubleLength.{double_length}
-use Rattle.recordbytes.proofs.Calling.{load-refuses, load_gives}
+use Rattle.recordbytes.proofs.Calling.{load_refuses, load_gives}
 use Rattle.doubleterminalbytes.proofs.calls.load.Statement.{statement}
 use Rattle.doubleterminalbytes.proofs.calls.load.Tie as tie
 
 returns : tie.Need-returns
 returns c =
     let l = c.before.before.before in
-    refused_answer c.refused.ensures (load-refuses double_length _ _ l.load.ensures c.before.if1.true)
+    refused_answer c.refused.ensures (load_refuses double_length _ _ l.load.ensures c.before.if1.true)
 
 returns-2 : tie.Need-returns-2
 returns-2 c =

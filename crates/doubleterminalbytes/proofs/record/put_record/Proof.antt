@@ -7,7 +7,7 @@ use Rattle.lent.proofs.Lists.{length_mapped}
 use Rattle.doublehost.specs.DoubleLength.{double_length}
 use Rattle.doublehost.proofs.Laws.{lawful}
 use Rattle.doubleterminal.specs.View.{view}
-use Rattle.recordbytes.proofs.Bytes.{record-put}
+use Rattle.recordbytes.proofs.Bytes.{record_put}
 use Rattle.doubleterminalbytes.proofs.record.put_record.Statement.{statement}
 use Rattle.doubleterminalbytes.proofs.record.put_record.Tie as tie
 
@@ -21,7 +21,7 @@ returns c =
     let registers = rest.before.before.before.before in
     let known = registers.before.before in
     let a = known.before.before.before.args in
-    record-put double_length lawful (view a.t) (sizes known).0 (sizes known).1 a.bytes.now (omega arith)
+    record_put double_length lawful (view a.t) (sizes known).0 (sizes known).1 a.bytes.now (omega arith)
     registers.put-registers.ensures rest.put_rest.ensures
 
 pub put_record_spec : {M : Type 1} → statement M

@@ -9,19 +9,19 @@ use lib.Seq.{take_all}
 use Rattle.lent.specs.Private.{Appends}
 use Rattle.lent.proofs.Appending.{nothing_appended, both_appends}
 use Rattle.doublehost.specs.DoubleLength.{double_length}
-use Rattle.recordbytes.proofs.Bytes.{registers-snoc}
-use Rattle.recordbytes.specs.RecordBytes.{registerBytes}
+use Rattle.recordbytes.proofs.Bytes.{registers_snoc}
+use Rattle.recordbytes.specs.RecordBytes.{register_bytes}
 use Rattle.doubleterminalbytes.proofs.record.put_registers.Statement.{statement}
 use Rattle.doubleterminalbytes.proofs.record.put_registers.Tie as tie
 
 abbrev invariant-loop : tie.invariant-loop
-invariant-loop bytes₀ keys n₀ i₀ bytes n i = (i ≤ 21) × (length bytes ≡ length bytes₀) × Appends (registerBytes double_length (take i keys)) bytes₀ bytes 0 n
+invariant-loop bytes₀ keys n₀ i₀ bytes n i = (i ≤ 21) × (length bytes ≡ length bytes₀) × Appends (register_bytes double_length (take i keys)) bytes₀ bytes 0 n
 
 abbrev decreases-loop : tie.decreases-loop
 decreases-loop bytes₀ keys n₀ i₀ bytes n i = 21 - i
 
 loop-holds : tie.Need-loop-init invariant-loop decreases-loop
-unfolding registerBytes
+unfolding register_bytes
 loop-holds c = (search rules, refl, λ room. nothing_appended)
 
 loop-again : tie.Need-loop-preserved invariant-loop decreases-loop
@@ -35,7 +35,7 @@ loop-again c =
     let right = rw r.bytes-of2.ensures at q.put2.ensures in (
       search rules,
       search rules,
-      rw (add-one l.loop.i, registers-snoc double_length keys l.loop.i (omega arith)) (both_appends l.loop.invariant.2 (both_appends left right)),
+      rw (add-one l.loop.i, registers_snoc double_length keys l.loop.i (omega arith)) (both_appends l.loop.invariant.2 (both_appends left right)),
     )
 
 returns : tie.Need-returns invariant-loop decreases-loop

@@ -6,7 +6,7 @@ use lib.ListN.{length-drop}
 use lib.Seq.{length-take-le}
 use Rattle.lent.proofs.Lists.{part_rest}
 use Rattle.doublehost.specs.DoubleLength.{double_length}
-use Rattle.recordbytes.proofs.Bytes.{state-read}
+use Rattle.recordbytes.proofs.Bytes.{state_read}
 use Rattle.doubleterminalbytes.proofs.record.terminal_of.Statement.{statement}
 use Rattle.doubleterminalbytes.proofs.record.terminal_of.Tie as tie
 
@@ -23,7 +23,7 @@ returns c =
     let bytes = k.before.before.before.args.bytes.now in
     let rest = rw (part_rest 336 bytes) at r.rest_of.ensures in
     let said = rest (rw (length-drop 336 bytes) (omega arith)) in
-    state-read double_length bytes k.registers-of.ensures said.0 said.1
+    state_read double_length bytes k.registers-of.ensures said.0 said.1
 
 pub terminal_of_spec : {M : Type 1} → statement M
 terminal_of_spec =

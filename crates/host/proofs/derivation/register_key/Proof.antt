@@ -4,7 +4,7 @@ use mathlib.Core.Path.{◌≡◌, refl}
 use Prim.Native.Nat.{◌≤◌}
 use native.Mathlib.Omega.{arith}
 use Rattle.registers.specs.RegisterKey.{derive}
-use Rattle.registers.proofs.Laws.{derive-turn, derive-last}
+use Rattle.registers.proofs.Laws.{derive_turn, derive_last}
 use Rattle.host.specs.SingleLength.{one_way}
 use Rattle.host.proofs.derivation.register_key.Statement.{statement}
 use Rattle.host.proofs.derivation.register_key.Tie as tie
@@ -22,10 +22,10 @@ loop-again : tie.Need-loop-preserved invariant-loop decreases-loop
 loop-again c =
     let a = c.before.before.before.args in
     let l = c.before.before.loop in
-    (search rules, derive-turn one_way a.tail a.counter a.initial l.key _ l.b c.before.loop-test.true c.past-place.ensures l.invariant.1)
+    (search rules, derive_turn one_way a.tail a.counter a.initial l.key _ l.b c.before.loop-test.true c.past-place.ensures l.invariant.1)
 
 returns : tie.Need-returns invariant-loop decreases-loop
-returns c = derive-last one_way _ _ _ _ c.before.loop.b (omega arith) c.before.loop.invariant.1
+returns c = derive_last one_way _ _ _ _ c.before.loop.b (omega arith) c.before.loop.invariant.1
 
 pub register_key_spec : {M : Type 1} → statement M
 register_key_spec =

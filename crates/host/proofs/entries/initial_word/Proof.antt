@@ -6,7 +6,7 @@ use Rattle.host.proofs.entries.initial_word.Tie as tie
 
 returns : tie.Need-returns
 unfolding initial_word
-returns c = rw (← c.before.before.before.word-of.ensures, ← c.before.before.right-half.ensures, ← c.before.cleared-head.ensures) c.triple-encrypt.ensures
+returns c = rw (← c.before.before.before.word_of_lem.ensures, ← c.before.before.right-half.ensures, ← c.before.cleared-head.ensures) c.triple-encrypt.ensures
 
 pub initial_word_spec : {M : Type 1} → statement M
 initial_word_spec =

@@ -4,7 +4,7 @@ use mathlib.Core.Path.{◌≡◌, sym, ◌∙◌}
 use Prim.Native.Nat.{◌*◌}
 use native.Mathlib.Omega.{arith}
 use lib.ListN.{length}
-use Rattle.lent.proofs.Appending.{no_room, written-appended}
+use Rattle.lent.proofs.Appending.{no_room, written_appended}
 use Rattle.lent.proofs.Results.{refused_lent}
 use Rattle.keyentry.specs.Hexadecimal.{text_of}
 use Rattle.keyentry.proofs.Doublings.{doubled_fits, doubled_too_large}
@@ -44,7 +44,7 @@ returns-4 c =
     let d = c.before.before.before.before.before.before.before in
     let a = d.before.before.before.before.before.before.args in
     let s = a.bytes.now in
-    written-appended (text_of 65 s) a.out.now a.n (omega (arith, text_length 65 s, two-for-each d)) c.before.before.put-text.ensures
+    written_appended (text_of 65 s) a.out.now a.n (omega (arith, text_length 65 s, two-for-each d)) c.before.before.put-text.ensures
 
 pub append_text_spec : {M : Type 1} → statement M
 append_text_spec =

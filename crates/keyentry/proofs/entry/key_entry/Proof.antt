@@ -25,7 +25,7 @@ returns-3 c =
     let f = c.before.before.before.before in
     let k = f.before.before in
     simp (sym k.before.key_size_lem.ensures ∙ not-false _ k.if1.false, sym f.before.full-text.ensures ∙ not-false _ f.if2.false)
-    c.before.before.text-bytes.ensures
+    c.before.before.text_bytes_lem.ensures
 
 pub key_entry_spec : {M : Type 1} → statement M
 key_entry_spec =

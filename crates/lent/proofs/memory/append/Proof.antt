@@ -2,7 +2,7 @@
 use borrow.Author.Rules.{rules}
 use mathlib.Core.Path.{refl, ◌∙◌}
 use native.Mathlib.Omega.{arith}
-use Rattle.lent.proofs.Appending.{front_length, no_room, written-appended, copied_after}
+use Rattle.lent.proofs.Appending.{front_length, no_room, written_appended, copied_after}
 use Rattle.lent.proofs.Results.{refused_lent}
 use Rattle.lent.proofs.memory.append.Statement.{statement}
 use Rattle.lent.proofs.memory.append.Tie as tie
@@ -23,7 +23,7 @@ returns-3 c =
     let v = a.value.now in
     let s = a.out.now in
     let front = front_length v s a.n (omega arith) in
-    written-appended v s a.n (omega arith)
+    written_appended v s a.n (omega arith)
     (record { end = refl; memory = rw c.before.before.copy.ensures (copied_after v s a.n (omega arith) ∙ rw front) })
 
 pub append_spec : {M : Type 1} → statement M

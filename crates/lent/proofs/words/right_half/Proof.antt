@@ -17,7 +17,7 @@ returns c =
     sym (ap word (drop_of_length-le key short))
 
 returns-2 : tie.Need-returns-2
-returns-2 c = c.word-of.ensures ∙ ap word (part_rest 8 c.before.before.before.before.args.key.now)
+returns-2 c = c.word_of_lem.ensures ∙ ap word (part_rest 8 c.before.before.before.before.args.key.now)
 
 pub right_half_spec : {M : Type 1} → statement M
 right_half_spec =

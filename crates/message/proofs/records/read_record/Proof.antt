@@ -8,7 +8,7 @@ use lib.Dec.{leb}
 use lib.ListN.{length}
 use Rattle.lent.specs.Result.{number}
 use Rattle.message.specs.Records.{body_size, field_of, checked_field, record_field}
-use Rattle.message.proofs.Reading.{checked, reads-refused, reads-field}
+use Rattle.message.proofs.Reading.{checked, reads_refused, reads_field}
 use borrow.Author.Rules.{rules}
 use Rattle.message.proofs.records.read_record.Statement.{statement}
 use Rattle.message.proofs.records.read_record.Tie as tie
@@ -36,7 +36,7 @@ unfolding record_field
 returns-2 c =
     let d = c.before in
     let a = d.before.before.before.before.before.before.args in
-    rw (whole d.before.before.before) (reads-refused a.rest.now (checked_field a.place (field_of a.rest.now)) _ (checked-is d) c.if2.true)
+    rw (whole d.before.before.before) (reads_refused a.rest.now (checked_field a.place (field_of a.rest.now)) _ (checked-is d) c.if2.true)
 
 returns-3 : tie.Need-returns-3
 unfolding record_field field_of
@@ -45,7 +45,7 @@ returns-3 c =
     let a = d.before.before.before.before.before.before.args in
     let f = field_of a.rest.now in
     rw (whole d.before.before.before, d.before.before.little-endian2.ensures.0, d.before.before.before.before.little_endian.ensures.0)
-    (reads-field a.rest.now (checked_field a.place f) f (λ g e. (checked a.place f g e).0) (sym (checked-is d) ∙ c.if2.false))
+    (reads_field a.rest.now (checked_field a.place f) f (λ g e. (checked a.place f g e).0) (sym (checked-is d) ∙ c.if2.false))
 
 pub read_record_spec : {M : Type 1} → statement M
 read_record_spec =

@@ -9,7 +9,7 @@ use lib.ListN.{length, take, drop, length-drop, drop_of_length-le}
 use lib.Seq.{drop-drop}
 use Rattle.lent.specs.Refusals.{cut_short, size}
 use Rattle.lent.specs.Result.{done}
-use Rattle.lent.proofs.Appending.{appended-front}
+use Rattle.lent.proofs.Appending.{appended_front}
 use Rattle.lent.proofs.Lists.{part_rest}
 use Rattle.lent.proofs.Results.{refuses_then}
 use Rattle.message.specs.declared.records.Place.{Place}
@@ -17,7 +17,7 @@ use Rattle.message.specs.declared.records.Place.TheVariants.{After}
 use Rattle.message.specs.Fields.{rule}
 use Rattle.message.specs.Records.{body_size, field_of, record_field, records, message_fields}
 use Rattle.message.specs.Gathered.{read_of, spaced_field, spaced, gathered}
-use Rattle.message.proofs.Reading.{Sound, read-field, read-refused}
+use Rattle.message.proofs.Reading.{Sound, read_field, read_refused}
 use Rattle.message.proofs.Walking.{following, following_end, following_field, records_next, refused_gathered}
 use Rattle.message.proofs.Room.{room, room_short, room_grows}
 use Rattle.message.proofs.text.gather.Statement.{statement}
@@ -79,14 +79,14 @@ returns-3 c =
     let d = c.before.before.before.before.before.before in
     let l = d.before.loop in
     let s = rest d in
-    let q = refuses_then _ (read-refused l.place s _ (read_is c.before.before.before.before ∙ c.before.before.number.given.1)) in
+    let q = refuses_then _ (read_refused l.place s _ (read_is c.before.before.before.before ∙ c.before.before.number.given.1)) in
     refused_gathered _ c.refused3.ensures
     (rw (← l.invariant.rest, records_next s l.place (rest_some d)) (refuses_then (λ fs. done (take l.n l.raw ++ spaced fs)) q))
 
 -- and is not refused
 read : (c : tie.After-known-told2 invariant-loop decreases-loop) → let d = c.before.before.before.before.before in let g = c.before.field.given.0 in
     Sound d.before.loop.place (rest d) × (g.0 ≡ (field_of (rest d)).number) × (g.1.0 ≡ 4 + body_size (rest d))
-read c = let d = c.before.before.before.before.before in read-field d.before.loop.place (rest d) _ _ (read_is c.before.before.before ∙ c.before.field.given.1)
+read c = let d = c.before.before.before.before.before in read_field d.before.loop.place (rest d) _ _ (read_is c.before.before.before ∙ c.before.field.given.1)
 
 -- it ends within the message
 within : (c : tie.After-known-told2 invariant-loop decreases-loop) → c.before.before.before.before.before.before.loop.at + c.before.field.given.0.1.0 ≤ length (whole c.before.before.before.before.before)
@@ -136,7 +136,7 @@ loop-again c =
       count = rw r.1 (omega (arith, appended.end, l.invariant.count, grows));
       memory = omega arith;
       rest =
-          rw (appended-front appended fits, r.1, r.2, ← drop-drop (4 + body_size s) l.at (whole d))
+          rw (appended_front appended fits, r.1, r.2, ← drop-drop (4 + body_size s) l.at (whole d))
           (sym (following_field (take l.n l.raw) f (records 0 (After f.number) (drop (4 + body_size s) s)))
           ∙ (rw (records_next s l.place (rest_some d), a.field) at l.invariant.rest));
     }

@@ -9,7 +9,7 @@ use lib.Seq.{length-take-le}
 use Rattle.lent.proofs.Lists.{part_rest}
 use Rattle.message.specs.Text.{joined_text}
 use Rattle.mac.specs.Mac.{message_text_and_mac, TextAndMac}
-use Rattle.mac.proofs.Laws.{both-number, both_zero, both-counted}
+use Rattle.mac.proofs.Laws.{both_number, both_zero, both_counted}
 use Rattle.messagemac.specs.Output.{lines}
 use Rattle.messagemac.proofs.Lines.{made, refusal_fits, lines_made}
 use Rattle.messagemac.proofs.Laws.{short_answer, whole_answer, refused_output}
@@ -35,7 +35,7 @@ both c = rw (← part_rest 8 (input c)) c.message-text-and-mac.ensures
 returns-2 : tie.Need-returns-2
 returns-2 c =
     let d = c.before.before.before.before.before.before in
-    rw (refused_output (input d) (omega arith) (both-number _ _ refl (both d) c.before.before.before.before.if2.true)) (made (omega arith) (refusal_fits _) c.before.before.refusal2.ensures)
+    rw (refused_output (input d) (omega arith) (both_number _ _ refl (both d) c.before.before.before.before.if2.true)) (made (omega arith) (refusal_fits _) c.before.before.refusal2.ensures)
 
 array-share-prefix-room : tie.Need-array-share-prefix-room
 array-share-prefix-room c = (both_zero _ _ refl (both c.before.before.before) c.before.if2.false).1
@@ -50,7 +50,7 @@ returns-3 c =
     let d = t.before.before.before.before.before.before in
     let z = t.before.before.before.before.if2.false in
     let k = both_zero _ _ refl (both d) z in
-    let n = both-counted _ _ refl (both d) z in
+    let n = both_counted _ _ refl (both d) z in
     let r = d.message-text-and-mac.result in
     let text = take r.length d.message-text-and-mac.new.1.1.0 in
     let short : length text ≤ 166 = rw (length-take-le _ _ k.1) (omega (arith, k.1)) in

@@ -5,7 +5,7 @@ use native.Mathlib.Omega.{arith}
 use lib.ListN.{replicate}
 use Rattle.lent.specs.Words.{from_base}
 use Rattle.lent.specs.HalfBytes.{word_of}
-use Rattle.pinblock.proofs.CardNumbers.{card_long, card-word}
+use Rattle.pinblock.proofs.CardNumbers.{card_long, card_word}
 use Rattle.pinblock.proofs.card_number.card_part.Statement.{statement}
 use Rattle.pinblock.proofs.card_number.card_part.Tie as tie
 
@@ -19,7 +19,7 @@ returns : tie.Need-returns
 unfolding word_of from_base
 returns c =
     let s = c.before.before.before in
-    c.with-half-bytes.ensures (replicate 4 0) refl ∙ card-word s.args.card.now s.requires.0 s.requires.1 _ refl
+    c.with-half-bytes.ensures (replicate 4 0) refl ∙ card_word s.args.card.now s.requires.0 s.requires.1 _ refl
 
 pub card_part_spec : {M : Type 1} → statement M
 card_part_spec =

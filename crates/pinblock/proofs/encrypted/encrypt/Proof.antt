@@ -6,7 +6,7 @@ use Rattle.pinblock.proofs.encrypted.encrypt.Tie as tie
 
 returns : tie.Need-returns
 unfolding encrypt
-returns c = c.under-key.ensures _ c.before.make.ensures
+returns c = c.under_key_lem.ensures _ c.before.make.ensures
 
 pub encrypt_spec : {M : Type 1} → statement M
 encrypt_spec = tie.close (tie.spec (λ c κs. search rules) (λ c κs. search rules) returns)

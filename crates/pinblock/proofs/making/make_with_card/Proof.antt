@@ -21,8 +21,8 @@ pin-long c = sym c.before.pin-sized.ensures ∙ not-false _ c.if1.false
 card_long : (c : tie.Else2) → card_size c.before.before.before.before.before.before.args.card.now ≡ true
 card_long c = sym c.before.card-sized.ensures ∙ not-false _ c.if2.false
 
-pin-digits : (c : tie.Else3) → all digit c.before.before.before.before.before.before.before.before.args.pin.now ≡ true
-pin-digits c = sym c.before.all_digits.ensures ∙ not-false _ c.if3.false
+pin_digits : (c : tie.Else3) → all digit c.before.before.before.before.before.before.before.before.args.pin.now ≡ true
+pin_digits c = sym c.before.all_digits.ensures ∙ not-false _ c.if3.false
 
 card-digits : (c : tie.Else4) → all digit c.before.before.before.before.before.before.before.before.before.before.args.card.now ≡ true
 card-digits c = sym c.before.all-digits2.ensures ∙ not-false _ c.if4.false
@@ -50,10 +50,10 @@ returns-4 c =
     let e3 = c.before.before.before in
     let e2 = e3.before.before in
     let no = sym c.before.before.all-digits2.ensures ∙ not-true _ c.before.if4.true in
-    refused_block c.refused-block4.ensures (character, refl, simp (pin-long e2.before.before, card_long e2, pin-digits e3, no))
+    refused_block c.refused-block4.ensures (character, refl, simp (pin-long e2.before.before, card_long e2, pin_digits e3, no))
 
 pin-block-requires : tie.Need-pin-block-requires
-pin-block-requires c κs = let e3 = c.before.before in rw (pin-long e3.before.before.before.before) (pin-digits e3)
+pin-block-requires c κs = let e3 = c.before.before in rw (pin-long e3.before.before.before.before) (pin_digits e3)
 
 card-part-requires : tie.Need-card-part-requires
 card-part-requires c κs = let e4 = c.before in (card_long e4.before.before.before.before, card-digits e4)
@@ -64,7 +64,7 @@ returns-5 c =
     let e4 = c.before.before.before in
     let e3 = e4.before.before in
     let e2 = e3.before.before in
-    simp (pin-long e2.before.before, card_long e2, pin-digits e3, card-digits e4, ← c.before.before.pin-block.ensures, ← c.before.card-part.ensures)
+    simp (pin-long e2.before.before, card_long e2, pin_digits e3, card-digits e4, ← c.before.before.pin-block.ensures, ← c.before.card-part.ensures)
     c.block_of_lem.ensures
 
 pub make_with_card_spec : {M : Type 1} → statement M

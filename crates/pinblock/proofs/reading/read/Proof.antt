@@ -16,7 +16,7 @@ returns-2 : tie.Need-returns-2
 unfolding read
 returns-2 c =
     let w = c.before.before.before.before in
-    simp (eq-eqb _ _ w.before.if1.false, ← w.word-of.ensures) c.before.before.read_word.ensures
+    simp (eq-eqb _ _ w.before.if1.false, ← w.word_of_lem.ensures) c.before.before.read_word.ensures
 
 pub read_spec : {M : Type 1} → statement M
 read_spec =

@@ -42,7 +42,7 @@ returns-4 c =
     let p = c.before.before.before.before in
     let e3 = p.before.before in
     let e2 = e3.before.before in
-    simp (eq-eqb _ _ e2.before.before.if1.false, long e2, digits e3, ← p.before.word-of.ensures, ← p.card-part.ensures)
+    simp (eq-eqb _ _ e2.before.before.if1.false, long e2, digits e3, ← p.before.word_of_lem.ensures, ← p.card-part.ensures)
     c.before.before.read_word.ensures
 
 pub read_with_card_spec : {M : Type 1} → statement M

@@ -18,7 +18,7 @@ returns-2 c = simp (eq-eqb _ _ c.before.if1.false, ne_eqb _ _ c.if2.true)
 -- what the comparison of the halves answers
 compared : (c : tie.After-same-key) → let e = c.before.before.before.before in
     c.same_key.result ≡ same_halves e.before.before.before.args.derivation-key.now
-compared c = c.same_key.ensures ∙ ap₂ same_key c.before.before.word-of.ensures c.before.right-half.ensures
+compared c = c.same_key.ensures ∙ ap₂ same_key c.before.before.word_of_lem.ensures c.before.right-half.ensures
 
 returns-3 : tie.Need-returns-3
 unfolding derivable

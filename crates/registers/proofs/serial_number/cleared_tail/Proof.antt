@@ -11,7 +11,7 @@ use Rattle.registers.proofs.serial_number.cleared_tail.Tie as tie
 
 returns : tie.Need-returns
 unfolding with_counter cleared_tail
-returns c = c.word-of.ensures ∙ ap (λ (s : List ℕ). word (take 8 (drop 2 s))) c.before.before.before.with-counter.ensures
+returns c = c.word_of_lem.ensures ∙ ap (λ (s : List ℕ). word (take 8 (drop 2 s))) c.before.before.before.with-counter.ensures
 
 pub cleared_tail_spec : {M : Type 1} → statement M
 cleared_tail_spec =

@@ -4,7 +4,7 @@ use mathlib.Core.Path.{ap, ◌∙◌}
 use Prim.Native.Nat.{ℕ}
 use native.Mathlib.Omega.{arith}
 use Rattle.registers.specs.Machine.{renewed}
-use Rattle.registers.proofs.Laws.{tail_clear, spent_ends, spent-goes-on}
+use Rattle.registers.proofs.Laws.{tail_clear, spent_ends, spent_goes_on}
 use Rattle.host.specs.SingleLength.{single_length}
 use Rattle.terminal.specs.View.{view}
 use Rattle.terminal.proofs.calls.after_key.Statement.{statement}
@@ -25,7 +25,7 @@ returns-2 c =
     let k = c.before.before.before in
     let t = k.before.before.before.before.args.t in
     let keys = c.renewed.ensures ∙ ap (λ (tail : ℕ). renewed single_length t.keys tail t.position.counter) c.before.cleared-tail.ensures in
-    spent-goes-on single_length (view t) k.before.position-after.ensures k.if1.false keys
+    spent_goes_on single_length (view t) k.before.position-after.ensures k.if1.false keys
 
 pub after_key_spec : {M : Type 1} → statement M
 after_key_spec =

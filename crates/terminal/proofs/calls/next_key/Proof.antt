@@ -12,7 +12,7 @@ use Rattle.lent.specs.Result.{over}
 use Rattle.lent.proofs.Bases.{to_length}
 use Rattle.lent.proofs.Results.{lent_all}
 use Rattle.registers.specs.Rule.{Valid}
-use Rattle.registers.proofs.Laws.{next-invalid, next-over, next-short, refused-next, given-next, runs_counted}
+use Rattle.registers.proofs.Laws.{next_invalid, next_over, next_short, refused_next, given_next, runs_counted}
 use Rattle.host.specs.SingleLength.{given_out, single_length}
 use Rattle.terminal.specs.View.{view}
 use Rattle.terminal.proofs.calls.next_key.Statement.{statement}
@@ -26,17 +26,17 @@ returns : tie.Need-returns
 returns c =
     let s = view c.before.before.before.before.args.t in
     let bad : ¬ Valid single_length s = λ v. false≢true (sym (not-true _ c.before.if1.true) ∙ c.before.before.valid.ensures.1 v) in
-    rw c.refused.ensures (refused-next single_length bad_record (next-invalid single_length s _ bad))
+    rw c.refused.ensures (refused_next single_length bad_record (next_invalid single_length s _ bad))
 
 returns-2 : tie.Need-returns-2
-returns-2 c = rw c.refused2.ensures (refused-next single_length exhausted (next-over single_length _ _ (ok c.before.before) c.before.if2.true))
+returns-2 c = rw c.refused2.ensures (refused_next single_length exhausted (next_over single_length _ _ (ok c.before.before) c.before.if2.true))
 
 returns-3 : tie.Need-returns-3
 returns-3 c =
     let k = c.before.before.before in
     rw c.refused3.ensures
-    (refused-next single_length short_buffer
-    (next-short single_length _ _ (ok k) c.before.before.if2.false (lt-leb 8 (length k.before.before.before.args.out.now) (omega arith))))
+    (refused_next single_length short_buffer
+    (next_short single_length _ _ (ok k) c.before.before.if2.false (lt-leb 8 (length k.before.before.before.args.out.now) (omega arith))))
 
 ready-key-requires : tie.Need-ready-key-requires
 ready-key-requires c κs = runs_counted (ok c.before.before).counted c.before.if2.false
@@ -52,7 +52,7 @@ returns-4 c =
     let k = w.before.before.before.before in
     let key = w.before.before.given_out.ensures ∙ ap given_out w.before.before.before.ready-key.ensures in
     let lent = lent_all (omega (arith, to_length 256 8 w.before.before.given_out.result)) w.lend-word.ensures in
-    given-next single_length (ok k.before.before) k.before.if2.false (omega arith) refl refl c.before.with-counter.ensures c.after-key.ensures
+    given_next single_length (ok k.before.before) k.before.if2.false (omega arith) refl refl c.before.with-counter.ensures c.after-key.ensures
     key lent
 
 pub next_key_spec : {M : Type 1} → statement M

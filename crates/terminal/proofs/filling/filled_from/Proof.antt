@@ -4,7 +4,7 @@ use mathlib.Core.Path.{◌≡◌, sym, ap, ◌∙◌}
 use Prim.Native.Nat.{ℕ, ◌+◌, ◌-◌, ◌≤◌}
 use native.Mathlib.Omega.{arith}
 use Rattle.registers.specs.Machine.{fill, stepped}
-use Rattle.registers.proofs.Laws.{bit_moved, fill_none, fill-turn}
+use Rattle.registers.proofs.Laws.{bit_moved, fill_none, fill_turn}
 use Rattle.host.specs.SingleLength.{one_way, single_length}
 use Rattle.terminal.proofs.filling.filled_from.Statement.{statement}
 use Rattle.terminal.proofs.filling.filled_from.Tie as tie
@@ -36,7 +36,7 @@ loop-again c =
     let bit = (bit_moved l.b a.n a.c (omega arith) k.requires.0 k.requires.1.0).0 in
     let e = c.before.wide.ensures ∙ ap (λ (x : ℕ). a.c + x) bit in
     let key = c.one_way.ensures ∙ ap (λ (x : ℕ). one_way a.key (a.tail + x)) e in
-    (search rules, fill-turn l.b (stepped single_length a.key a.tail a.c) _ _ _ l.invariant.1 key)
+    (search rules, fill_turn l.b (stepped single_length a.key a.tail a.c) _ _ _ l.invariant.1 key)
 
 returns : tie.Need-returns invariant-loop decreases-loop
 returns c = let e : c.before.loop.b ≡ c.before.before.args.n = omega arith in rw (← e) c.before.loop.invariant.1

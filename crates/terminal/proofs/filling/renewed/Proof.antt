@@ -2,7 +2,7 @@
 use borrow.Author.Rules.{rules}
 use Prim.Native.Nat.{◌<◌}
 use native.Mathlib.Omega.{arith}
-use Rattle.registers.proofs.Laws.{place_lt, place_room, renewed-few, renewed-full}
+use Rattle.registers.proofs.Laws.{place_lt, place_room, renewed_few, renewed_full}
 use Rattle.host.specs.SingleLength.{single_length}
 use Rattle.terminal.proofs.filling.renewed.Statement.{statement}
 use Rattle.terminal.proofs.filling.renewed.Tie as tie
@@ -31,7 +31,7 @@ array-write-few c = omega (arith, place c.before.before)
 returns : tie.Need-returns
 returns c =
     let a = c.before.before.before.args in
-    rw (renewed-few single_length a.t1 a.tail a.c c.before.if1.true, c.filled-from.ensures, c.before.before.lowest-place.ensures)
+    rw (renewed_few single_length a.t1 a.tail a.c c.before.if1.true, c.filled-from.ensures, c.before.before.lowest-place.ensures)
 
 mul-kept : tie.Need-overflow-mul-kept
 mul-kept c = omega (arith, place c.before)
@@ -42,7 +42,7 @@ array-write-kept c = omega (arith, place c.before)
 returns-2 : tie.Need-returns-2
 returns-2 c =
     let a = c.before.before.args in
-    rw (renewed-full single_length a.t1 a.tail a.c c.if1.false, c.before.lowest-place.ensures)
+    rw (renewed_full single_length a.t1 a.tail a.c c.if1.false, c.before.lowest-place.ensures)
 
 pub renewed_spec : {M : Type 1} → statement M
 renewed_spec =

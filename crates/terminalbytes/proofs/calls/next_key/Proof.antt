@@ -7,38 +7,38 @@ use Prim.Native.Nat.{◌≤◌}
 use native.Mathlib.Omega.{arith}
 use lib.ListN.{length, get_or, replicate}
 use Rattle.lent.specs.Refusals.{size, bad_record, short_buffer}
-use Rattle.registers.specs.Calls.{nextKey}
+use Rattle.registers.specs.Calls.{next_key}
 use Rattle.registers.specs.Calls as registers
 use Rattle.host.specs.SingleLength.{single_length}
 use Rattle.host.proofs.Laws.{lawful}
 use Rattle.terminal.specs.View.{view}
-use Rattle.recordbytes.specs.RecordBytes.{recordSize, state_of, ValidBytes}
-use Rattle.recordbytes.proofs.Laws.{other-size, other-bytes}
-use Rattle.recordbytes.proofs.Calling.{refused-call, also-refused, short-buffers, serial-sized, called-done}
+use Rattle.recordbytes.specs.RecordBytes.{record_size, state_of, ValidBytes}
+use Rattle.recordbytes.proofs.Laws.{other_size, other_bytes}
+use Rattle.recordbytes.proofs.Calling.{refused_call, also_refused, short_buffers, serial_sized, called_done}
 use Rattle.terminalbytes.proofs.calls.next_key.Statement.{statement}
 use Rattle.terminalbytes.proofs.calls.next_key.Tie as tie
 
 returns : tie.Need-returns
-returns c = rw c.refused.ensures (refused-call single_length size (other-size single_length _ c.before.if1.true _) refl)
+returns c = rw c.refused.ensures (refused_call single_length size (other_size single_length _ c.before.if1.true _) refl)
 
 returns-2 : tie.Need-returns-2
 returns-2 c =
     let bytes = c.before.before.before.before.before.before.before.args.«record».now in
-    let bad : ¬ ValidBytes single_length bytes = λ v. omega (arith, v.exhausted-byte, c.before.if2.true) in
-    rw c.refused2.ensures (refused-call single_length bad_record (other-bytes single_length bytes c.before.before.before.if1.false bad _) refl)
+    let bad : ¬ ValidBytes single_length bytes = λ v. omega (arith, v.exhausted_byte_lem, c.before.if2.true) in
+    rw c.refused2.ensures (refused_call single_length bad_record (other_bytes single_length bytes c.before.before.before.if1.false bad _) refl)
 
 -- what is known once `next_key` has answered: the record has 187 bytes, the last of them is 0 or 1, and what the call promises
 answer : (c : tie.After-next-key) → let s = c.before.before.before.before.before.before.before.before.before.before.args.«record».now in
-    (length s ≡ recordSize single_length) × (get_or s 186 0 ≤ 1)
-    × registers.Keeps single_length (nextKey single_length (state_of single_length s) true) (state_of single_length s) (let r = c.next-key.result in record { before = replicate 8 0; number = r.number; counter = r.counter; serial = r.serial; left = view r.terminal; after = c.next-key.new.1.0 })
+    (length s ≡ record_size single_length) × (get_or s 186 0 ≤ 1)
+    × registers.Keeps single_length (next_key single_length (state_of single_length s) true) (state_of single_length s) (let r = c.next-key.result in record { before = replicate 8 0; number = r.number; counter = r.counter; serial = r.serial; left = view r.terminal; after = c.next-key.new.1.0 })
 answer c =
     (c.before.before.before.before.before.before.if1.false, c.before.before.before.before.if2.false, rw c.before.before.terminal-of.ensures at c.next-key.ensures)
 
 returns-3 : tie.Need-returns-3
 returns-3 c =
     let next = answer c.before.before.before.before in
-    let r = also-refused single_length _ _ next.0 next.1 next.2 c.before.if3.true _ in
-    rw c.refused3.ensures (refused-call single_length r.0 r.2 r.1)
+    let r = also_refused single_length _ _ next.0 next.1 next.2 c.before.if3.true _ in
+    rw c.refused3.ensures (refused_call single_length r.0 r.2 r.1)
 
 returns-4 : tie.Need-returns-4
 returns-4 c =
@@ -46,7 +46,7 @@ returns-4 c =
     let next = answer e.before.before.before.before.before.before in
     let few = sym e.enough.ensures ∙ not-true _ c.before.if4.true in
     rw c.refused4.ensures
-    (refused-call single_length short_buffer (short-buffers single_length _ _ next.0 next.1 next.2 e.before.before.before.if3.false few) refl)
+    (refused_call single_length short_buffer (short_buffers single_length _ _ next.0 next.1 next.2 e.before.before.before.if3.false few) refl)
 
 -- once there is room, the call that has answered, and its number
 abbrev called : tie.Else4 → tie.After-next-key
@@ -59,7 +59,7 @@ slice-aggregate-lend-2 : tie.Need-slice-aggregate-lend-2
 slice-aggregate-lend-2 c =
     let i = c.before.before.before.before.before.before.before in
     let next = answer (called i) in
-    sym (serial-sized single_length _ _ next.0 next.1 next.2 (zero i))
+    sym (serial_sized single_length _ _ next.0 next.1 next.2 (zero i))
 
 put-record-requires : tie.Need-put-record-requires
 put-record-requires c κs = (answer (called c.before.before.before.before.before.before.before.before.before.before.before.before)).0
@@ -72,7 +72,7 @@ returns-5 c =
     let i = k.before.before.before in
     let next = answer (called i) in
     let enough = sym i.before.enough.ensures ∙ not-false _ i.if4.false in
-    called-done single_length _ _ next.0 next.1 next.2 (zero i) _ lawful refl enough
+    called_done single_length _ _ next.0 next.1 next.2 (zero i) _ lawful refl enough
     refl refl p.put_record.ensures k.lend.ensures w.lend2.ensures
 
 pub next_key_spec : {M : Type 1} → statement M

@@ -6,7 +6,7 @@ use lib.ListN.{length}
 use Rattle.host.specs.SingleLength.{single_length}
 use Rattle.host.proofs.Laws.{lawful}
 use Rattle.terminal.specs.View.{view}
-use Rattle.recordbytes.proofs.Bytes.{record-put}
+use Rattle.recordbytes.proofs.Bytes.{record_put}
 use Rattle.terminalbytes.proofs.record.put_record.Statement.{statement}
 use Rattle.terminalbytes.proofs.record.put_record.Tie as tie
 
@@ -20,7 +20,7 @@ returns c =
     let registers = rest.before.before.before.before in
     let known = registers.before.before in
     let a = known.before.before.before.args in
-    record-put single_length lawful (view a.t) (sizes known).0 (sizes known).1 a.bytes.now (omega arith)
+    record_put single_length lawful (view a.t) (sizes known).0 (sizes known).1 a.bytes.now (omega arith)
     registers.put-registers.ensures rest.put_rest.ensures
 
 pub put_record_spec : {M : Type 1} → statement M

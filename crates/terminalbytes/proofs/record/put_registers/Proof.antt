@@ -9,19 +9,19 @@ use lib.Seq.{take_all}
 use Rattle.lent.specs.Private.{Appends}
 use Rattle.lent.proofs.Appending.{nothing_appended, both_appends}
 use Rattle.host.specs.SingleLength.{single_length}
-use Rattle.recordbytes.proofs.Bytes.{registers-snoc}
-use Rattle.recordbytes.specs.RecordBytes.{registerBytes}
+use Rattle.recordbytes.proofs.Bytes.{registers_snoc}
+use Rattle.recordbytes.specs.RecordBytes.{register_bytes}
 use Rattle.terminalbytes.proofs.record.put_registers.Statement.{statement}
 use Rattle.terminalbytes.proofs.record.put_registers.Tie as tie
 
 abbrev invariant-loop : tie.invariant-loop
-invariant-loop bytes₀ keys n₀ i₀ bytes n i = (i ≤ 21) × (length bytes ≡ length bytes₀) × Appends (registerBytes single_length (take i keys)) bytes₀ bytes 0 n
+invariant-loop bytes₀ keys n₀ i₀ bytes n i = (i ≤ 21) × (length bytes ≡ length bytes₀) × Appends (register_bytes single_length (take i keys)) bytes₀ bytes 0 n
 
 abbrev decreases-loop : tie.decreases-loop
 decreases-loop bytes₀ keys n₀ i₀ bytes n i = 21 - i
 
 loop-holds : tie.Need-loop-init invariant-loop decreases-loop
-unfolding registerBytes
+unfolding register_bytes
 loop-holds c = (search rules, refl, λ room. nothing_appended)
 
 loop-again : tie.Need-loop-preserved invariant-loop decreases-loop
@@ -31,7 +31,7 @@ loop-again c =
     let keys = l.before.before.args.t1 in (
       search rules,
       search rules,
-      rw (add-one l.loop.i, registers-snoc single_length keys l.loop.i (omega arith)) (both_appends l.loop.invariant.2 (rw word at c.before.before.put.ensures)),
+      rw (add-one l.loop.i, registers_snoc single_length keys l.loop.i (omega arith)) (both_appends l.loop.invariant.2 (rw word at c.before.before.put.ensures)),
     )
 
 returns : tie.Need-returns invariant-loop decreases-loop
