@@ -5,7 +5,7 @@ ghost use Rattle.lent.specs.Characters;
 ghost use Rattle.lent.specs.Characters.{digit, digit_of, of_kind, two_digits};
 
 // Kinds of characters.
-#[derive(Drop)]
+#[derive(Clone, Copy)]
 pub enum Kind {
     Digits,
     // With letters of either case.

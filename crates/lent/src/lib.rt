@@ -1,4 +1,6 @@
 // What the entries share: the numbers of the refusals, their answers, words and characters in lent memory.
+#![tactic(auto)]
+
 mod answers;
 mod characters;
 mod framing;

@@ -1,5 +1,3 @@
--- `double_bytes_of` meets its contract.
-use borrow.Author.Rules.{rules}
 use borrow.Rule.Slice.PartMut.{mid_of, put_mid}
 use mathlib.Core.Path.{◌≡◌}
 use mathlib.Core.List.{List, ◌++◌}
@@ -7,8 +5,7 @@ use Prim.Native.Nat.{ℕ}
 use lib.ListN.{replicate}
 use Rattle.lent.specs.Result.{done, Written}
 use Rattle.lent.specs.Words.{to_base, word_bytes}
-use Rattle.lent.proofs.memory.double_bytes_of.Statement.{statement}
-use Rattle.lent.proofs.memory.double_bytes_of.Tie as tie
+use Rattle.lent.proofs.memory.double_bytes_of.Goals as goal
 
 -- two words lent one after the other
 two-words : (a b : ℕ) {v w : List ℕ} {m n k l : ℕ}
@@ -17,11 +14,5 @@ two-words : (a b : ℕ) {v w : List ℕ} {m n k l : ℕ}
 unfolding to_base
 two-words a b p q = rw (p.memory, rw p.memory at q.memory)
 
-returns : tie.Need-returns
-returns c = two-words _ _ c.before.before.before.before.lend-word.ensures c.before.lend-word2.ensures
-
-pub double_bytes_of_spec : {M : Type 1} → statement M
-double_bytes_of_spec =
-    tie.close
-    (tie.spec (λ c. search rules) (λ c κs. search rules)
-    (λ c. search rules) (λ c. search rules) (λ c. search rules) (λ c κs. search rules) returns)
+pub returns : goal.returns
+returns c = two-words _ _ c.lend_word.ensures c.lend_word-2.ensures
