@@ -36,8 +36,8 @@ def declared(files):
     return found
 
 
-# Where a definition and a lemma fall together and port.py has respelt the lemma already: the definition has the plain name.
-CHOSEN = {"sameBytes": "same_bytes", "same_bytes": "same_bytes_lem"}
+# Where names fall together and the rule would not do: a definition has the plain name before a lemma that port.py has respelt already, and a field may have a definition's.
+CHOSEN = {"sameBytes": "same_bytes", "same_bytes": "same_bytes_lem", "recordAfter": "record_after", "record-after": "record_after"}
 
 
 def snake(name):

@@ -24,7 +24,7 @@ pub extern "C" fn czg_terminal_next_key(
     key: &mut [u8],
     serial_number: &mut [u8],
 ) -> lent::Answer
-    ensures { Next single_length «record».old (record { key_before = key.old; serial_before = serial_number.old; number = result.number; length = result.length; record_after_lem = «record».new; key_after = key.new; serial_after = serial_number.new }) }
+    ensures { Next single_length «record».old (record { key_before = key.old; serial_before = serial_number.old; number = result.number; length = result.length; record_after = «record».new; key_after = key.new; serial_after = serial_number.new }) }
 {
     terminalbytes::next_key(record, key, serial_number)
 }
@@ -49,7 +49,7 @@ pub extern "C" fn czg_double_terminal_next_key(
     key: &mut [u8],
     serial_number: &mut [u8],
 ) -> lent::Answer
-    ensures { Next double_length «record».old (record { key_before = key.old; serial_before = serial_number.old; number = result.number; length = result.length; record_after_lem = «record».new; key_after = key.new; serial_after = serial_number.new }) }
+    ensures { Next double_length «record».old (record { key_before = key.old; serial_before = serial_number.old; number = result.number; length = result.length; record_after = «record».new; key_after = key.new; serial_after = serial_number.new }) }
 {
     doubleterminalbytes::next_key(record, key, serial_number)
 }

@@ -35,7 +35,7 @@ module _ {K : Type 0} (device : Device K) where
 
   -- a refusal leaves all as it was
   pub refused_call : {o : Result (Given K)} {bytes key serial : List ℕ} (why : Refusal) {num : ℕ} → o ≡ refused why → num ≡ number_of why
-      → Keeps device o bytes (record { key_before = key; serial_before = serial; number = num; length = 0; record_after_lem = bytes; key_after = key; serial_after = serial })
+      → Keeps device o bytes (record { key_before = key; serial_before = serial; number = num; length = 0; record_after = bytes; key_after = key; serial_after = serial })
   refused_call why e f = rw (e, f) (record { number = refl; value = refl; state = refl; key_memory = refl; serial_memory = refl })
 
   -- A call with bytes of a record's size, whose last is 0 or 1, after a call y with the state of them and a buffer of a key's size.
@@ -65,7 +65,7 @@ module _ {K : Type 0} (device : Device K) where
 
       pub called_done : (x : Call) {i j m n : ℕ} → Lawful device → length y.before ≡ device.size
           → roomy device x ≡ true
-          → x.number ≡ 0 → x.length ≡ device.size → x.record_after_lem ≡ record_bytes device y.left
+          → x.number ≡ 0 → x.length ≡ device.size → x.record_after ≡ record_bytes device y.left
           → Written (done y.after) x.key_before i j x.key_after → Written (done y.serial) x.serial_before m n x.serial_after
           → Next device bytes x
       called_done x lawful room enough number value left wk ws =

@@ -91,7 +91,7 @@ module _ {K : Type 0} (device : Device K) where
 
   -- refused, it answers no length, and the three buffers stay
   pub refused_stays : (why : Refusal) (bytes : List ℕ) (x : Call) → Keeps device (refused why) bytes x
-      → (x.length ≡ 0) × (x.record_after_lem ≡ bytes) × (x.key_after ≡ x.key_before) × (x.serial_after ≡ x.serial_before)
+      → (x.length ≡ 0) × (x.record_after ≡ bytes) × (x.key_after ≡ x.key_before) × (x.serial_after ≡ x.serial_before)
   refused_stays why bytes x kept = (kept.value, kept.state, kept.key_memory, kept.serial_memory)
 
   -- ---- there are calls to speak of
@@ -105,16 +105,16 @@ module _ {K : Type 0} (device : Device K) where
         serial_before = serial;
         number = number o;
         length = length (of_done (λ g. g.key) [] o);
-        record_after_lem = of_done (λ g. record_bytes device g.left) bytes o;
+        record_after = of_done (λ g. record_bytes device g.left) bytes o;
         key_after = over (of_done (λ g. g.key) [] o) key;
         serial_after = over (of_done (λ g. g.serial) [] o) serial;
       }
 
   -- for every record's bytes and every list of two buffers there are calls that keep their promise, with these buffers
   pub some_calls : (bytes : List ℕ) (buffers : List (List ℕ × List ℕ))
-      → (calls : List Call) × Trace (λ x. x.record_after_lem) (Next device) bytes calls × (map (λ x. (x.key_before, x.serial_before)) calls ≡ buffers)
+      → (calls : List Call) × Trace (λ x. x.record_after) (Next device) bytes calls × (map (λ x. (x.key_before, x.serial_before)) calls ≡ buffers)
   some_calls =
-      some_trace (λ x. x.record_after_lem) (Next device) (λ x. (x.key_before, x.serial_before))
+      some_trace (λ x. x.record_after) (Next device) (λ x. (x.key_before, x.serial_before))
       (λ bytes buffers. (call_with bytes buffers, record { number = refl; value = refl; state = refl; key_memory = refl; serial_memory = refl }, refl))
 
   -- and a call that keeps its promise is answered in no other way
@@ -125,7 +125,7 @@ module _ {K : Type 0} (device : Device K) where
         serial_before = x.serial_before;
         number = x.number;
         length = x.length;
-        record_after_lem = x.record_after_lem;
+        record_after = x.record_after;
         key_after = x.key_after;
         serial_after = x.serial_after;
       } ≡ call_with bytes (x.key_before, x.serial_before) = rw (p.number, p.value, p.state, p.key_memory, p.serial_memory) in

@@ -16,7 +16,7 @@ pub record Call : Type 0 where
   pub serial_before : List ℕ
   pub number : ℕ
   pub length : ℕ
-  pub record_after_lem : List ℕ
+  pub record_after : List ℕ
   pub key_after : List ℕ
   pub serial_after : List ℕ
 
@@ -36,7 +36,7 @@ module _ {K : Type 0} (device : Device K) where
   pub record Keeps (o : Result (Given K)) (bytes : List ℕ) (x : Call) : Type 0 where
     pub number : x.number ≡ result.number o
     pub value : x.length ≡ length (of_done (λ g. g.key) [] o)
-    pub state : x.record_after_lem ≡ of_done (λ g. record_bytes device g.left) bytes o
+    pub state : x.record_after ≡ of_done (λ g. record_bytes device g.left) bytes o
     pub key_memory : x.key_after ≡ over (of_done (λ g. g.key) [] o) x.key_before
     pub serial_memory : x.serial_after ≡ over (of_done (λ g. g.serial) [] o) x.serial_before
 

@@ -26,5 +26,5 @@ module _ {K : Type 0} (device : Device K) where
     enough = roomy device;
     number = λ x. x.number;
     counter = λ x. counter_of x.serial_after;
-    leaves = λ x. x.record_after_lem;
+    leaves = λ x. x.record_after;
   }

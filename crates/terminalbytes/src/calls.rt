@@ -23,7 +23,7 @@ pub fn load(initial_key: &[u8], serial_number: &[u8], out: &mut [u8]) -> lent::A
 // does not have 187 bytes, 11 if they are no valid record, 12 if it is exhausted, 13 if the key buffer is shorter than 8 or the serial buffer
 // shorter than 10. A refusal leaves all three as they were.
 pub fn next_key(record: &mut [u8], key: &mut [u8], serial_number: &mut [u8]) -> lent::Answer
-    ensures { Next single_length «record».old (record { key_before = key.old; serial_before = serial_number.old; number = result.number; length = result.length; record_after_lem = «record».new; key_after = key.new; serial_after = serial_number.new }) }
+    ensures { Next single_length «record».old (record { key_before = key.old; serial_before = serial_number.old; number = result.number; length = result.length; record_after = «record».new; key_after = key.new; serial_after = serial_number.new }) }
 {
     if record.len() != 187 {
         return lent::refused(lent::SIZE);
