@@ -5,16 +5,14 @@ ghost use Rattle.keyed.specs.Keyed.{encrypt_block, decrypt_block};
 use crate::answers::lend_block;
 
 // Encrypts a block, 8 bytes. Refuses with 6, 13.
-#[unsafe(no_mangle)]
-pub extern "C" fn czg_encrypt(key: &[u8], block: &[u8], out: &mut [u8]) -> lent::Answer
+pub fn czg_encrypt(key: &[u8], block: &[u8], out: &mut [u8]) -> lent::Answer
     ensures { Written (encrypt_block key.now block.now) out.old result.number result.length out.new }
 {
     lend_block(keyed::encrypt_block(key, block), out)
 }
 
 // Decrypts a block, 8 bytes. Refuses with 6, 13.
-#[unsafe(no_mangle)]
-pub extern "C" fn czg_decrypt(key: &[u8], block: &[u8], out: &mut [u8]) -> lent::Answer
+pub fn czg_decrypt(key: &[u8], block: &[u8], out: &mut [u8]) -> lent::Answer
     ensures { Written (decrypt_block key.now block.now) out.old result.number result.length out.new }
 {
     lend_block(keyed::decrypt_block(key, block), out)

@@ -7,32 +7,21 @@ ghost use Rattle.doublehost.specs.DoubleLength.{double_length};
 use crate::answers::{lend_block, lend_double_block};
 
 // The initial key of the terminal with that serial number, 8 bytes. Refuses with 6, 9, 13.
-#[unsafe(no_mangle)]
-pub extern "C" fn czg_initial_key(
-    derivation_key: &[u8],
-    serial_number: &[u8],
-    out: &mut [u8],
-) -> lent::Answer
+pub fn czg_initial_key(derivation_key: &[u8], serial_number: &[u8], out: &mut [u8]) -> lent::Answer
     ensures { Written (initial_key single_length derivation_key.now serial_number.now) out.old result.number result.length out.new }
 {
     lend_block(host::initial_key(derivation_key, serial_number), out)
 }
 
 // The host's key for the counter in the serial number, 8 bytes. Refuses with 6, 9, 10, 13.
-#[unsafe(no_mangle)]
-pub extern "C" fn czg_host_key(
-    derivation_key: &[u8],
-    serial_number: &[u8],
-    out: &mut [u8],
-) -> lent::Answer
+pub fn czg_host_key(derivation_key: &[u8], serial_number: &[u8], out: &mut [u8]) -> lent::Answer
     ensures { Written (host_key single_length derivation_key.now serial_number.now) out.old result.number result.length out.new }
 {
     lend_block(host::host_key(derivation_key, serial_number), out)
 }
 
 // The initial key of the double-length terminal with that serial number, 16 bytes. Refuses with 6, 9, 13.
-#[unsafe(no_mangle)]
-pub extern "C" fn czg_double_initial_key(
+pub fn czg_double_initial_key(
     derivation_key: &[u8],
     serial_number: &[u8],
     out: &mut [u8],
@@ -43,8 +32,7 @@ pub extern "C" fn czg_double_initial_key(
 }
 
 // The host's double-length key for the counter in the serial number, 16 bytes. Refuses with 6, 9, 10, 13.
-#[unsafe(no_mangle)]
-pub extern "C" fn czg_double_host_key(
+pub fn czg_double_host_key(
     derivation_key: &[u8],
     serial_number: &[u8],
     out: &mut [u8],

@@ -5,12 +5,7 @@ ghost use Rattle.doublehost.specs.DoubleLength.{double_length};
 ghost use Rattle.recordbytes.specs.Calls.{loaded_bytes, Next};
 
 // Loads a terminal, and writes its record of 187 bytes. Refuses with 6, 13.
-#[unsafe(no_mangle)]
-pub extern "C" fn czg_terminal_load(
-    initial_key: &[u8],
-    serial_number: &[u8],
-    out: &mut [u8],
-) -> lent::Answer
+pub fn czg_terminal_load(initial_key: &[u8], serial_number: &[u8], out: &mut [u8]) -> lent::Answer
     ensures { Written (loaded_bytes single_length initial_key.now serial_number.now) out.old result.number result.length out.new }
 {
     terminalbytes::load(initial_key, serial_number, out)
@@ -18,8 +13,7 @@ pub extern "C" fn czg_terminal_load(
 
 // Gives out the terminal's next key, 8 bytes, with the serial number that has its counter, and writes the record after it. Refuses with
 // 6, 11, 12, 13; a refusal leaves all three as they were.
-#[unsafe(no_mangle)]
-pub extern "C" fn czg_terminal_next_key(
+pub fn czg_terminal_next_key(
     record: &mut [u8],
     key: &mut [u8],
     serial_number: &mut [u8],
@@ -30,8 +24,7 @@ pub extern "C" fn czg_terminal_next_key(
 }
 
 // Loads a terminal of double length, and writes its record of 355 bytes. Refuses with 6, 13.
-#[unsafe(no_mangle)]
-pub extern "C" fn czg_double_terminal_load(
+pub fn czg_double_terminal_load(
     initial_key: &[u8],
     serial_number: &[u8],
     out: &mut [u8],
@@ -43,8 +36,7 @@ pub extern "C" fn czg_double_terminal_load(
 
 // Gives out the terminal's next key, 16 bytes, with the serial number that has its counter, and writes the record after it. Refuses with
 // 6, 11, 12, 13; a refusal leaves all three as they were.
-#[unsafe(no_mangle)]
-pub extern "C" fn czg_double_terminal_next_key(
+pub fn czg_double_terminal_next_key(
     record: &mut [u8],
     key: &mut [u8],
     serial_number: &mut [u8],
