@@ -51,7 +51,14 @@ fn too_long(stdout: &mut Stdout, errors: &mut Stderr, out: &mut [u8]) -> Held
 }
 
 // Holds the line that has no end yet, at the start of the memory.
-fn hold_rest(stdout: &mut Stdout, errors: &mut Stderr, input: &mut [u8], filled: usize, served: Served, out: &mut [u8]) -> Held
+fn hold_rest(
+    stdout: &mut Stdout,
+    errors: &mut Stderr,
+    input: &mut [u8],
+    filled: usize,
+    served: Served,
+    out: &mut [u8],
+) -> Held
     requires { (served.at ≤ filled) × (filled ≤ length input.old) }
     ensures { result.count ≤ 16384 }
 {
@@ -76,7 +83,15 @@ fn hold_rest(stdout: &mut Stdout, errors: &mut Stderr, input: &mut [u8], filled:
 }
 
 // Answers the last line, where the input ends without a line feed.
-fn answer_last(stdout: &mut Stdout, errors: &mut Stderr, table: &[u8], line: &[u8], passing: bool, bytes: &mut [u8], out: &mut [u8]) {
+fn answer_last(
+    stdout: &mut Stdout,
+    errors: &mut Stderr,
+    table: &[u8],
+    line: &[u8],
+    passing: bool,
+    bytes: &mut [u8],
+    out: &mut [u8],
+) {
     if passing {
         return;
     }
@@ -85,7 +100,16 @@ fn answer_last(stdout: &mut Stdout, errors: &mut Stderr, table: &[u8], line: &[u
 }
 
 // Reads once, and answers every line that is whole.
-fn turn(stdin: &mut Stdin, stdout: &mut Stdout, errors: &mut Stderr, table: &[u8], input: &mut [u8], before: Held, bytes: &mut [u8], out: &mut [u8]) -> Held
+fn turn(
+    stdin: &mut Stdin,
+    stdout: &mut Stdout,
+    errors: &mut Stderr,
+    table: &[u8],
+    input: &mut [u8],
+    before: Held,
+    bytes: &mut [u8],
+    out: &mut [u8],
+) -> Held
     requires input_len { length input.old ≡ 65536 }
     requires count_bound { before.count ≤ 16384 }
     ensures { result.count ≤ 16384 }
@@ -96,11 +120,27 @@ fn turn(stdin: &mut Stdin, stdout: &mut Stdout, errors: &mut Stderr, table: &[u8
         return ended();
     }
     if got.count == 0 {
-        answer_last(stdout, errors, table, &input[..from], before.passing, bytes, out);
+        answer_last(
+            stdout,
+            errors,
+            table,
+            &input[..from],
+            before.passing,
+            bytes,
+            out,
+        );
         return ended();
     }
     let filled = from + got.count;
-    let served = serve(stdout, errors, table, &input[..filled], before.passing, bytes, out);
+    let served = serve(
+        stdout,
+        errors,
+        table,
+        &input[..filled],
+        before.passing,
+        bytes,
+        out,
+    );
     if served.failed {
         return ended();
     }
@@ -120,7 +160,9 @@ pub(crate) fn run(stdin: &mut Stdin, stdout: &mut Stdout, errors: &mut Stderr, t
     let mut reads: u64 = 18446744073709551615;
     while reads > 0 {
         reads -= 1;
-        now = turn(stdin, stdout, errors, table, &mut input, now, &mut bytes, &mut out);
+        now = turn(
+            stdin, stdout, errors, table, &mut input, now, &mut bytes, &mut out,
+        );
         if now.ended {
             return;
         }

@@ -32,7 +32,12 @@ fn double_host_key(derivation_key: &[u8], serial_number: [u8; 10]) -> DoubleKey 
 }
 
 // Takes every key of a terminal of single length, at most 1,048,576 calls, and gives whether its report was written.
-fn drained(out: &mut Stdout, errors: &mut Stderr, derivation_key: &[u8], loaded: terminal::Terminal) -> bool {
+fn drained(
+    out: &mut Stdout,
+    errors: &mut Stderr,
+    derivation_key: &[u8],
+    loaded: terminal::Terminal,
+) -> bool {
     let mut t = loaded;
     let mut seen = nothing(false);
     let mut calls: u64 = 0;
@@ -53,7 +58,12 @@ fn drained(out: &mut Stdout, errors: &mut Stderr, derivation_key: &[u8], loaded:
 }
 
 // Takes every key of a terminal of double length, at most 1,048,576 calls, and gives whether its report was written.
-fn double_drained(out: &mut Stdout, errors: &mut Stderr, derivation_key: &[u8], loaded: doubleterminal::Terminal) -> bool {
+fn double_drained(
+    out: &mut Stdout,
+    errors: &mut Stderr,
+    derivation_key: &[u8],
+    loaded: doubleterminal::Terminal,
+) -> bool {
     let mut t = loaded;
     let mut seen = nothing(true);
     let mut calls: u64 = 0;

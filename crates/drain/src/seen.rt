@@ -93,22 +93,44 @@ fn count_line(out: &mut Stdout, errors: &mut Stderr, what: &[u8], n: u64) -> boo
 }
 
 // Writes what it is, and a key.
-fn key_digits(out: &mut Stdout, errors: &mut Stderr, what: &[u8], key: DoubleKey, double: bool) -> bool {
+fn key_digits(
+    out: &mut Stdout,
+    errors: &mut Stderr,
+    what: &[u8],
+    key: DoubleKey,
+    double: bool,
+) -> bool {
     text(out, errors, what)
         && digits(out, errors, &lent::bytes_of(key.left))
         && (!double || digits(out, errors, &lent::bytes_of(key.right)))
 }
 
 // Writes a line: what it is, and a key.
-fn word_line(out: &mut Stdout, errors: &mut Stderr, what: &[u8], key: DoubleKey, double: bool) -> bool {
+fn word_line(
+    out: &mut Stdout,
+    errors: &mut Stderr,
+    what: &[u8],
+    key: DoubleKey,
+    double: bool,
+) -> bool {
     key_digits(out, errors, what, key, double) && text(out, errors, b"\n")
 }
 
 // Writes a line: what it is, a key, and its counter in hexadecimal.
-fn key_line(out: &mut Stdout, errors: &mut Stderr, what: &[u8], key: DoubleKey, double: bool, counter: u32) -> bool {
+fn key_line(
+    out: &mut Stdout,
+    errors: &mut Stderr,
+    what: &[u8],
+    key: DoubleKey,
+    double: bool,
+    counter: u32,
+) -> bool {
     let x = counter % 0x1000000;
     let shown = [(x / 65536) as u8, (x / 256 % 256) as u8, (x % 256) as u8];
-    key_digits(out, errors, what, key, double) && text(out, errors, b" counter ") && digits(out, errors, &shown) && text(out, errors, b"\n")
+    key_digits(out, errors, what, key, double)
+        && text(out, errors, b" counter ")
+        && digits(out, errors, &shown)
+        && text(out, errors, b"\n")
 }
 
 // The line above a report.
@@ -125,7 +147,14 @@ pub(crate) fn report(out: &mut Stdout, errors: &mut Stderr, seen: Seen, number: 
     length_line(out, errors, double)
         && count_line(out, errors, b"keys ", seen.keys)
         && count_line(out, errors, b"differed from the host ", seen.differed)
-        && key_line(out, errors, b"first ", seen.first, double, seen.first_counter)
+        && key_line(
+            out,
+            errors,
+            b"first ",
+            seen.first,
+            double,
+            seen.first_counter,
+        )
         && key_line(out, errors, b"last ", seen.last, double, seen.last_counter)
         && word_line(out, errors, b"checksum ", seen.checksum, double)
         && count_line(out, errors, b"then refused ", number as u64)
