@@ -18,7 +18,7 @@ proved := crates.txt $(shell find $(wildcard crates/*/src crates/*/specs crates/
 
 .PHONY: help lib shared czg install check clean
 .DELETE_ON_ERROR:
-# One rt at a time: it keeps what it proved in target/.
+# One rt at a time: each keeps what it proved in the crates' out/.
 .NOTPARALLEL:
 
 help:
@@ -37,15 +37,15 @@ czg: $(program)
 # The old files go first, so that none is left where a proof fails.
 $(archive): $(proved)
 	rm -f $@ $(shared)
-	$(RT) staticlib chizuregwo
+	cd crates/chizuregwo_c && $(RT) lib
 	mkdir -p build
-	cp target/staticlib/libchizuregwo.a $@
+	cp crates/chizuregwo_c/out/libchizuregwo_c.a $@
 
 $(program): $(proved)
 	rm -f $@
-	$(RT) check czg
+	cd crates/czg && $(RT) run </dev/null
 	mkdir -p build
-	cp target/bin/czg $@
+	cp crates/czg/out/czg $@
 
 $(header): include/chizuregwo.h
 	mkdir -p build

@@ -1,7 +1,7 @@
 -- The terminal of double length (02, M-105; ANS X9.24-1): how its keys are derived. A key is two words; the low bits of its bytes count.
 use Rattle.std.specs.Prelude.{◌≡◌, List, ◌++◌, ℕ}
 use Rattle.std.proofs.Common.{ap, ap₂}
-use Rattle.std.proofs.Math.Logic.{Dec·and}
+use Rattle.std.proofs.Math.Logic.Dec
 use Rattle.std.proofs.Math.Decide.{ℕ_discrete, map_dec}
 use Rattle.std.specs.Int.Bits.{bit_xor}
 use Rattle.lent.specs.Words.{left, right, word_bytes}
@@ -57,7 +57,7 @@ double_length = record {
   empty? = λ key.
       map_dec (λ h. ap₂ (λ (l r : ℕ). record { left = l; right = r }) h.0 h.1)
       (λ e. (ap (λ (k : DoubleKey). k.left) e, ap (λ (k : DoubleKey). k.right) e))
-      (Dec·and (ℕ_discrete key.left 0) (ℕ_discrete key.right 0));
+      (Dec.and (ℕ_discrete key.left 0) (ℕ_discrete key.right 0));
   initial = initial_pair;
   one_way = one_way;
   variant = given_out;

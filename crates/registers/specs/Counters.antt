@@ -1,6 +1,7 @@
 -- The counters that a terminal gives out, and their order (01, Terminal keys).
 use Rattle.std.specs.Prelude.{◌≡◌, Bool, true, false, ℕ, zero, suc, ◌+◌, ◌*◌, ◌/◌, ◌%◌, ◌^◌, ◌≤◌, ◌<◌, ltb}
-use Rattle.std.proofs.Math.Logic.{ite, Dec·and}
+use Rattle.std.proofs.Math.Logic.Dec
+use Rattle.std.proofs.Math.Logic.{ite}
 use Rattle.std.proofs.Math.Decide.{dec_le, dec_lt, map_dec}
 use Rattle.std.specs.Int.Count.{ones, count_trailing_zeros}
 use Rattle.lent.specs.Choice.{pick}
@@ -23,7 +24,7 @@ pub record Permitted (c : ℕ) : Type 0 where
 pub permitted? : (c : ℕ) → Dec (Permitted c)
 permitted? c =
     map_dec (λ h. record { from_one = h.0; fits = h.1.0; few = h.1.1 }) (λ p. (p.from_one, (p.fits, p.few)))
-    (Dec·and (dec_le 1 c) (Dec·and (dec_lt c (2 ^ 21)) (dec_le (ones c) 10)))
+    (Dec.and (dec_le 1 c) (Dec.and (dec_lt c (2 ^ 21)) (dec_le (ones c) 10)))
 
 abbrev pub counter_permitted : ℕ → Bool
 counter_permitted c = ite (permitted? c) true false

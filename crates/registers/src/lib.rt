@@ -1,6 +1,8 @@
 // What the terminals of DUKPT have in common: the counters, the positions that they bring a terminal into, the serial number, and what the host
 // looks at before it derives a key.
 // The register machine, its promises and demand 3, for any device, stand in specs/ and proofs/.
+#![tactic(auto)]
+
 mod counters;
 mod derivations;
 mod positions;

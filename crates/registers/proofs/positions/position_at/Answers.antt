@@ -1,0 +1,7 @@
+use borrow.Author.Rules.{rules}
+use Rattle.registers.specs.Machine.{position_at}
+use Rattle.registers.proofs.positions.position_at.Goals as goal
+
+pub returns : goal.returns
+unfolding position_at
+returns c = rw c.filled_mask.ensures
