@@ -1,4 +1,6 @@
 // Cleaning a text (01, The message and its MAC text).
+#![tactic(auto)]
+
 mod answers;
 
 ghost use Rattle.std.specs.Prelude.{◌≡◌, ◌≤◌, length};

@@ -1,4 +1,6 @@
 // Keys entered as hexadecimal text, and the hexadecimal text of bytes.
+#![tactic(auto)]
+
 mod decoding;
 mod encoding;
 mod entry;

@@ -3,11 +3,11 @@ ghost use Rattle.std.specs.Prelude.{◌≡◌};
 ghost use Rattle.keyentry.specs.Doubled.{doubled};
 
 // A number of hexadecimal digits, or a place among them.
-#[derive(Drop)]
+#[derive(Clone, Copy)]
 pub(crate) struct Digits(pub(crate) usize);
 
 // A number of bytes, or a place among them.
-#[derive(Drop)]
+#[derive(Clone, Copy)]
 pub struct Bytes(pub usize);
 
 // The digits that a number of bytes takes, or that they are too many to count.

@@ -1,4 +1,6 @@
 // What the numbers that an operator sees mean.
+#![tactic(auto)]
+
 ghost use Rattle.std.specs.Prelude.{◌≡◌, ◌-◌, ◌<◌, ◌≤◌, length, take, drop};
 ghost use Rattle.lent.specs.Result.{Written};
 ghost use Rattle.meanings.specs.Lines.{joined};

@@ -1,42 +1,19 @@
--- `write_cleaned` meets its contract: what it has written and dropped, with what the pass writes and drops for the rest of the text, is the whole.
-use borrow.Author.Rules.{rules}
 use borrow.Author.Tests.{eq-eqb}
 use mathlib.Core.Path.{◌≡◌, refl, ap, sym, ◌∙◌}
 use mathlib.Core.Bool.{true, false}
 use mathlib.Core.List.{List, [], ◌∷◌, ◌++◌, append_assoc, append-nil}
-use Prim.Native.Nat.{ℕ, ◌+◌, ◌-◌, ◌≤◌}
+use Prim.Native.Nat.{ℕ, ◌+◌, ◌≤◌}
 use native.Mathlib.Omega.{arith}
 use lib.ListN.{length, get_or, take, drop, replicate, length-append, length-set, length-replicate, drop_of_length-le}
 use lib.Seq.{take_at}
 use Rattle.lent.specs.Characters.{capitalized}
-use Rattle.lent.specs.Result.{over}
 use Rattle.lent.proofs.Laws.{drop_next}
 use Rattle.cleaning.specs.Cleaning.{cleaned, kept}
 use Rattle.cleaning.specs.Counts.{dropped_from}
 use Rattle.cleaning.proofs.Pass.{pass, cleaned_pass, pass_space, pass_kept, pass_dropped, owed_pushed, space_kept}
 use Rattle.cleaning.proofs.Counting.{nothing_dropped, none_dropped, one_dropped}
-use Rattle.cleaning.proofs.write_cleaned.Statement.{statement}
-use Rattle.cleaning.proofs.write_cleaned.Tie as tie
-
--- n bytes are written and d dropped; with what the pass writes for the rest they are the cleaned text, and with what is dropped there all that is
-record Turn (text before out : List ℕ) (n d started owed i : ℕ) : Type 0 where
-  pub written : List ℕ
-  pub count : n ≡ length written
-  pub memory : out ≡ over written before
-  pub rest : written ++ pass started owed (drop i text) ≡ cleaned text
-  pub dropped : d + dropped_from (drop i text) ≡ dropped_from text
-  pub few : d ≤ i
-  pub not-ahead : n + owed ≤ i
-  pub one : started ≤ 1
-  pub after : owed ≤ started
-  pub within : i ≤ length text
-  pub room : length out ≡ length before
-
-abbrev invariant-loop : tie.invariant-loop
-invariant-loop text out₀ n₀ d₀ started₀ owed₀ i₀ out n d started owed i = Turn text out₀ out n d started owed i
-
-abbrev decreases-loop : tie.decreases-loop
-decreases-loop text out₀ n₀ d₀ started₀ owed₀ i₀ out n d started owed i = length text - i
+use Rattle.cleaning.proofs.write_cleaned.Invariants.{Turn}
+use Rattle.cleaning.proofs.write_cleaned.Goals as goal
 
 -- a turn at the next character of the text
 next : {text before out : List ℕ} {n d started owed i : ℕ} (t : Turn text before out n d started owed i) (r : List ℕ) → i + 1 ≤ length text
@@ -44,8 +21,8 @@ next : {text before out : List ℕ} {n d started owed i : ℕ} (t : Turn text be
 next {text = text} {started = started} {owed = owed} {i = i} t r h e =
     ap (λ (s : List ℕ). t.written ++ s) (sym (ap (pass started owed) (drop_next text i (omega arith)) ∙ e)) ∙ t.rest
 
-loop-holds : tie.Need-loop-init invariant-loop decreases-loop
-loop-holds c =
+pub loop-i-init : goal.loop-i-init
+loop-i-init c =
     record {
       written = [];
       count = refl;
@@ -60,10 +37,10 @@ loop-holds c =
       room = refl;
     }
 
-loop-again : tie.Need-loop-preserved invariant-loop decreases-loop
-loop-again c =
-    let l = c.before.before.before.before.loop in
-    let text = c.before.before.before.before.before.before.before.args.text.now in
+pub loop-i-preserved-then-x-eq32 : goal.loop-i-preserved-then-x-eq32
+loop-i-preserved-then-x-eq32 c =
+    let l = c.loop-i in
+    let text = c.args.text.now in
     let space : capitalized (get_or text l.i 0) ≡ 32 = cc in
     record {
       written = l.invariant.written;
@@ -79,19 +56,19 @@ loop-again c =
       room = l.invariant.room;
     }
 
-slice-write-out-2 : tie.Need-slice-write-out-2 invariant-loop decreases-loop
-slice-write-out-2 c = simp length-set (omega arith)
+pub bounds-out-n-then-kept : goal.bounds-out-n-then-kept
+bounds-out-n-then-kept c = simp length-set (omega arith)
 
-loop-again-2 : tie.Need-loop-preserved-2 invariant-loop decreases-loop
-loop-again-2 c =
-    let l = c.before.before.before.before.before.before.loop in
-    let a = c.before.before.before.before.before.before.before.before.before.args in
+pub loop-i-preserved-then-kept : goal.loop-i-preserved-then-kept
+loop-i-preserved-then-kept c =
+    let l = c.loop-i in
+    let a = c.args in
     let x = get_or a.text.now l.i 0 in
-    let y = c.before.before.before.capitalized.result in
+    let y = c.capitalized-x.result in
     let w = l.invariant.written in
-    let e : y ≡ capitalized x = c.before.before.before.capitalized.ensures in
-    let n : capitalized x ≡ 32 → ⊥ = λ z. c.before.before.if1.false (e ∙ z) in
-    let k : kept (capitalized x) ≡ true = ap kept (sym e) ∙ sym c.before.kept.ensures ∙ c.if2.true in
+    let e : y ≡ capitalized x = c.capitalized-x.ensures in
+    let n : capitalized x ≡ 32 → ⊥ = λ z. c.if-x-eq32.false (e ∙ z) in
+    let k : kept (capitalized x) ≡ true = ap kept (sym e) ∙ sym c.kept.ensures ∙ c.if-kept.true in
     record {
       written = w ++ replicate l.owed 32 ++ (y ∷ []);
       count = simp (length-append, length-replicate) (omega arith);
@@ -106,14 +83,14 @@ loop-again-2 c =
       room = simp length-set (omega arith);
     }
 
-loop-again-3 : tie.Need-loop-preserved-3 invariant-loop decreases-loop
-loop-again-3 c =
-    let l = c.before.before.before.before.before.before.loop in
-    let text = c.before.before.before.before.before.before.before.before.before.args.text.now in
+pub loop-i-preserved : goal.loop-i-preserved
+loop-i-preserved c =
+    let l = c.loop-i in
+    let text = c.args.text.now in
     let x = get_or text l.i 0 in
-    let e : c.before.before.before.capitalized.result ≡ capitalized x = c.before.before.before.capitalized.ensures in
-    let n : capitalized x ≡ 32 → ⊥ = λ z. c.before.before.if1.false (e ∙ z) in
-    let k : kept (capitalized x) ≡ false = ap kept (sym e) ∙ sym c.before.kept.ensures ∙ c.if2.false in
+    let e : c.capitalized-x.result ≡ capitalized x = c.capitalized-x.ensures in
+    let n : capitalized x ≡ 32 → ⊥ = λ z. c.if-x-eq32.false (e ∙ z) in
+    let k : kept (capitalized x) ≡ false = ap kept (sym e) ∙ sym c.kept.ensures ∙ c.if-kept.false in
     record {
       written = l.invariant.written;
       count = l.invariant.count;
@@ -128,12 +105,12 @@ loop-again-3 c =
       room = l.invariant.room;
     }
 
-returns : tie.Need-returns invariant-loop decreases-loop
+pub returns : goal.returns
 unfolding pass
 returns c =
-    let l = c.before.loop in
+    let l = c.loop-i in
     let w = l.invariant.written in
-    let text = c.before.before.before.before.args.text.now in
+    let text = c.args.text.now in
     let all : w ≡ cleaned text =
     rw append-nil at (rw (drop_of_length-le text {i = l.i} (omega arith)) at l.invariant.rest) in
     let none : drop l.i text ≡ [] = drop_of_length-le text {i = l.i} (omega arith) in
@@ -142,10 +119,3 @@ returns c =
       text = ap (take l.n) l.invariant.memory ∙ take_at w _ l.n (sym l.invariant.count) ∙ all;
       dropped = omega (arith, l.invariant.dropped, ap dropped_from none, nothing_dropped);
     }
-
-pub write_cleaned_spec : {M : Type 1} → statement M
-write_cleaned_spec =
-    tie.close
-    (tie.spec invariant-loop decreases-loop loop-holds (λ c. search rules) (λ c κs. search rules) (λ c. search rules)
-    (λ c. search rules) loop-again (λ c κs. search rules) (λ c. search rules) (λ c. search rules) slice-write-out-2
-    (λ c. search rules) (λ c. search rules) loop-again-2 (λ c. search rules) (λ c. search rules) loop-again-3 (λ c. search rules) returns)
