@@ -14,7 +14,7 @@ returns-then-position c =
 
 pub renewed-keys-requires : goal.renewed-keys-requires
 renewed-keys-requires c =
-    (c.requires, omega (arith, tail_clear c.args.t.serial, c.cleared_tail.ensures))
+    record { permitted = c.requires; tail_bound = omega (arith, tail_clear c.args.t.serial, c.cleared_tail.ensures) }
 
 pub returns : goal.returns
 returns c =
