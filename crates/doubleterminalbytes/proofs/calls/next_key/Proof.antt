@@ -24,7 +24,7 @@ returns c = rw c.refused.ensures (refused_call double_length size (other_size do
 returns-2 : tie.Need-returns-2
 returns-2 c =
     let bytes = c.before.before.before.before.before.before.before.args.«record».now in
-    let bad : ¬ ValidBytes double_length bytes = λ v. omega (arith, v.exhausted_byte_lem, c.before.if2.true) in
+    let bad : ¬ ValidBytes double_length bytes = λ v. omega (arith, v.exhausted_byte, c.before.if2.true) in
     rw c.refused2.ensures (refused_call double_length bad_record (other_bytes double_length bytes c.before.before.before.if1.false bad _) refl)
 
 -- what is known once `next_key` has answered: the record has 355 bytes, the last of them is 0 or 1, and what the call promises
