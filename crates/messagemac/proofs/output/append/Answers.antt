@@ -1,0 +1,6 @@
+use Rattle.lent.proofs.Appending.{appended}
+use borrow.Author.Rules.{rules}
+use Rattle.messagemac.proofs.output.append.Goals as goal
+
+pub returns : goal.returns
+returns c room = appended _ _ _ room c.append-appended.ensures
