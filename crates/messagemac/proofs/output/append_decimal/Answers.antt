@@ -7,4 +7,4 @@ pub returns : goal.returns
 returns c =
     let n = c.args.number in
     let d = c.decimal-count.ensures in
-    rw (sym (d.1.1 ∙ decimal_digits _ n d.1.0 (search rules))) c.append.ensures
+    rw (sym (d.digits ∙ decimal_digits _ n d.len (search rules))) c.append.ensures

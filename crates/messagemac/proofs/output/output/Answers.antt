@@ -19,41 +19,26 @@ unfolding lines
 returns-then-input-lt8 c =
     rw (short_answer c.args.input.now c.if-input-lt8.true) (made (omega arith) (refusal_fits 6) c.refusal.ensures)
 
-pub slice_bounds-message_text_and_mac-end : goal.slice_bounds-message_text_and_mac-end
-slice_bounds-message_text_and_mac-end c = sym (length-take-le 8 c.args.input.now (omega arith))
-
--- the message's text and its MAC, in 166 bytes
-abbrev input : goal.After-message_text_and_mac-made → List ℕ
-input c = c.args.input.now
+pub slice_bounds-room-end : goal.slice_bounds-room-end
+slice_bounds-room-end c =
+    let both : TextAndMac (message_text_and_mac (take 8 c.args.input.now) (drop 8 c.args.input.now)) (joined_text (drop 8 c.args.input.now)) (replicate 166 0) c.message_text_and_mac-made.result c.message_text_and_mac-made.new.out = rw (← part_rest 8 c.args.input.now) c.message_text_and_mac-made.ensures in
+    (both_zero _ _ refl both c.if-number-ne-DONE.false).1
 
 pub returns-then-number-ne-DONE : goal.returns-then-number-ne-DONE
 returns-then-number-ne-DONE c =
-    let both : let w = c.message_text_and_mac-made in
-    TextAndMac (message_text_and_mac (take 8 (input c)) (drop 8 (input c))) (joined_text (drop 8 (input c))) (replicate 166 0) w.result w.new.1.1.0 = rw (← part_rest 8 (input c)) c.message_text_and_mac-made.ensures in
-    rw (refused_output (input c) (omega arith) (both_number _ _ refl both c.if-number-ne-DONE.true)) (made (omega arith) (refusal_fits _) c.refusal-then-number-ne-DONE.ensures)
-
-pub slice_bounds-room-end : goal.slice_bounds-room-end
-slice_bounds-room-end c =
-    let both : let w = c.message_text_and_mac-made in
-    TextAndMac (message_text_and_mac (take 8 (input c)) (drop 8 (input c))) (joined_text (drop 8 (input c))) (replicate 166 0) w.result w.new.1.1.0 = rw (← part_rest 8 (input c)) c.message_text_and_mac-made.ensures in
-    (both_zero _ _ refl both c.if-number-ne-DONE.false).1
-
-pub slice_bounds-two_lines-end : goal.slice_bounds-two_lines-end
-slice_bounds-two_lines-end c =
-    let both : let w = c.message_text_and_mac-made in
-    TextAndMac (message_text_and_mac (take 8 (input c)) (drop 8 (input c))) (joined_text (drop 8 (input c))) (replicate 166 0) w.result w.new.1.1.0 = rw (← part_rest 8 (input c)) c.message_text_and_mac-made.ensures in
-    sym (length-take-le _ _ (both_zero _ _ refl both c.if-number-ne-DONE.false).1)
+    let both : TextAndMac (message_text_and_mac (take 8 c.args.input.now) (drop 8 c.args.input.now)) (joined_text (drop 8 c.args.input.now)) (replicate 166 0) c.message_text_and_mac-made.result c.message_text_and_mac-made.new.out = rw (← part_rest 8 c.args.input.now) c.message_text_and_mac-made.ensures in
+    rw (refused_output c.args.input.now (omega arith) (both_number _ _ refl both c.if-number-ne-DONE.true))
+    (made (omega arith) (refusal_fits _) c.refusal-then-number-ne-DONE.ensures)
 
 pub returns : goal.returns
 unfolding lines
 returns c =
-    let both : let w = c.message_text_and_mac-made in
-    TextAndMac (message_text_and_mac (take 8 (input c)) (drop 8 (input c))) (joined_text (drop 8 (input c))) (replicate 166 0) w.result w.new.1.1.0 = rw (← part_rest 8 (input c)) c.message_text_and_mac-made.ensures in
+    let both : TextAndMac (message_text_and_mac (take 8 c.args.input.now) (drop 8 c.args.input.now)) (joined_text (drop 8 c.args.input.now)) (replicate 166 0) c.message_text_and_mac-made.result c.message_text_and_mac-made.new.out = rw (← part_rest 8 c.args.input.now) c.message_text_and_mac-made.ensures in
     let z = c.if-number-ne-DONE.false in
     let k = both_zero _ _ refl both z in
     let n = both_counted _ _ refl both z in
     let r = c.message_text_and_mac-made.result in
-    let text = take r.length c.message_text_and_mac-made.new.1.1.0 in
+    let text = take r.length c.message_text_and_mac-made.new.out in
     let short : length text ≤ 166 = rw (length-take-le _ _ k.1) (omega (arith, k.1)) in
-    rw (whole_answer (input c) (omega arith), k.0, ← n.dropped, ← n.spaces)
+    rw (whole_answer c.args.input.now (omega arith), k.0, ← n.dropped, ← n.spaces)
     (lines_made text r.mac r.dropped r.spaces (omega arith) short (search rules) c.two_lines-k.ensures c.append_numbers.ensures)
