@@ -1,5 +1,4 @@
 use Rattle.lent.proofs.Appending.{appended}
-use borrow.Author.Rules.{rules}
 use Rattle.messagemac.proofs.output.append.Goals as goal
 
 pub returns : goal.returns

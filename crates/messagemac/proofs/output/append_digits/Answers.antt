@@ -1,4 +1,3 @@
-use borrow.Author.Rules.{rules}
 use Rattle.lent.proofs.Appending.{appended}
 use Rattle.messagemac.proofs.output.append_digits.Goals as goal
 

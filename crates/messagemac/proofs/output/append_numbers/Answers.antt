@@ -1,5 +1,4 @@
 use Rattle.lent.proofs.Appending.{both_appends}
-use borrow.Author.Rules.{rules}
 use Rattle.messagemac.proofs.output.append_numbers.Goals as goal
 
 pub returns : goal.returns

@@ -1,5 +1,4 @@
 use Rattle.lent.proofs.Appending.{both_appends}
-use borrow.Author.Rules.{rules}
 use Rattle.messagemac.proofs.output.two_lines.Goals as goal
 
 pub returns : goal.returns
