@@ -1,4 +1,3 @@
-use borrow.Author.Rules.{rules}
 use Rattle.czg.specs.Calls.{answer_at}
 use Rattle.czg.proofs.Uncounted.{before_texts, after_texts}
 use Rattle.czg.proofs.calls.call.Goals as goal

@@ -1,5 +1,3 @@
-use borrow.Author.Rules.{rules}
-use mathlib.Core.Path.{sym}
 use lib.Seq.{length-take-le}
 use Rattle.czg.specs.Private.{answer_for, text_for}
 use Rattle.czg.proofs.Bounds.{taken}

@@ -1,5 +1,3 @@
-use borrow.Author.Tests.{not-true, not-false}
-use borrow.Author.Rules.{rules}
 use mathlib.Core.Path.{sym, ◌∙◌}
 use Prim.Native.Nat.{◌≤◌}
 use lib.ListN.{length}
@@ -16,7 +14,7 @@ returns-then-same c =
 pub returns-then-not-characters : goal.returns-then-not-characters
 unfolding input_bytes
 returns-then-not-characters c =
-    simp (sym c.same.ensures ∙ c.if-same.false, not-true c.args.characters c.if-not-characters.true-raw) c.text_bytes.ensures
+    simp (sym c.same.ensures ∙ c.if-same.false, c.if-not-characters.true) c.text_bytes.ensures
 
 pub slice_bounds-text_bytes-count : goal.slice_bounds-text_bytes-count
 slice_bounds-text_bytes-count c =
@@ -33,11 +31,11 @@ slice_bounds-text_bytes-start c =
 pub returns-then-starts_with : goal.returns-then-starts_with
 unfolding input_bytes
 returns-then-starts_with c =
-    simp (sym c.same.ensures ∙ c.if-same.false, not-false c.args.characters c.if-not-characters.false-raw, sym c.starts_with.ensures ∙ c.if-starts_with.true)
+    simp (sym c.same.ensures ∙ c.if-same.false, c.if-not-characters.false, sym c.starts_with.ensures ∙ c.if-starts_with.true)
     (rw part_rest at c.text_bytes-then-starts_with.ensures)
 
 pub returns : goal.returns
 unfolding input_bytes
 returns c =
-    simp (sym c.same.ensures ∙ c.if-same.false, not-false c.args.characters c.if-not-characters.false-raw, sym c.starts_with.ensures ∙ c.if-starts_with.false)
+    simp (sym c.same.ensures ∙ c.if-same.false, c.if-not-characters.false, sym c.starts_with.ensures ∙ c.if-starts_with.false)
     c.lend-2.ensures

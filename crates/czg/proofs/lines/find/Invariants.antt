@@ -1,8 +1,5 @@
-use borrow.Author.Rules.{rules}
-use mathlib.Core.Path.{sym}
 use Prim.Native.Nat.{◌≤◌, ◌-◌}
 use lib.ListN.{length}
-use lib.Seq.{length-take-le}
 use Rattle.czg.proofs.lines.find.Given as goal
 
 abbrev pub invariant-loop-i : goal.invariant-loop-i
