@@ -1,6 +1,6 @@
 -- The published example of ANS X9.24-1 (A.4), computed from the definitions: derivation key 0123456789ABCDEFFEDCBA9876543210, serial number
 -- FFFF9876543210E00000. What DES gives is the cipher's.
-use mathlib.Core.Path.{◌≡◌, refl, ap, ap₂}
+use mathlib.Core.Path.{◌≡◌, refl, ap₂}
 use Prim.Native.Nat.{ℕ}
 use lib.Bits.{bit_xor}
 use Rattle.lent.specs.Words.{to_base, from_base}

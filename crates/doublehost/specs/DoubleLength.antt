@@ -1,5 +1,5 @@
 -- The terminal of double length (02, M-105; ANS X9.24-1): how its keys are derived. A key is two words; the low bits of its bytes count.
-use Rattle.std.specs.Prelude.{◌≡◌, List, ◌++◌, ℕ}
+use Rattle.std.specs.Prelude.{List, ◌++◌, ℕ}
 use Rattle.std.proofs.Common.{ap, ap₂}
 use Rattle.std.proofs.Math.Logic.Dec
 use Rattle.std.proofs.Math.Decide.{ℕ_discrete, map_dec}

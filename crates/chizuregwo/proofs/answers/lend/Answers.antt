@@ -1,4 +1,3 @@
-use borrow.Author.Rules.{rules}
 use Rattle.lent.proofs.Results.{answered_done, answered_refused, refused_answer}
 use Rattle.chizuregwo.proofs.answers.lend.Goals as goal
 

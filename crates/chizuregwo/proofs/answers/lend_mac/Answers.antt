@@ -1,4 +1,3 @@
-use borrow.Author.Rules.{rules}
 use Rattle.cleaning.proofs.Answering.{written_text}
 use Rattle.chizuregwo.proofs.answers.lend_mac.Goals as goal
 

@@ -1,4 +1,3 @@
-use borrow.Author.Rules.{rules}
 use Rattle.chizuregwo.proofs.cards.czg_card_key_unadjusted.Goals as goal
 
 pub returns : goal.returns

@@ -1,4 +1,3 @@
-use borrow.Author.Rules.{rules}
 use Rattle.chizuregwo.proofs.cards.czg_derivation_data.Goals as goal
 
 pub returns : goal.returns

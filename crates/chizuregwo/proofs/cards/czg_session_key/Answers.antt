@@ -1,4 +1,3 @@
-use borrow.Author.Rules.{rules}
 use Rattle.chizuregwo.proofs.cards.czg_session_key.Goals as goal
 
 pub returns : goal.returns

@@ -1,4 +1,3 @@
-use borrow.Author.Rules.{rules}
 use Rattle.chizuregwo.proofs.ciphers.czg_decrypt.Goals as goal
 
 pub returns : goal.returns

@@ -1,4 +1,3 @@
-use borrow.Author.Rules.{rules}
 use Rattle.chizuregwo.proofs.hosts.czg_initial_key.Goals as goal
 
 pub returns : goal.returns

@@ -1,4 +1,3 @@
-use borrow.Author.Rules.{rules}
 use Rattle.chizuregwo.proofs.messages.czg_text_mac.Goals as goal
 
 pub returns : goal.returns

@@ -1,4 +1,3 @@
-use borrow.Author.Rules.{rules}
 use Rattle.chizuregwo.proofs.pins.czg_pin_encrypt_with_card.Goals as goal
 
 pub returns : goal.returns

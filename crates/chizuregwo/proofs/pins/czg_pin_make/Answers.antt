@@ -1,4 +1,3 @@
-use borrow.Author.Rules.{rules}
 use Rattle.chizuregwo.proofs.pins.czg_pin_make.Goals as goal
 
 pub returns : goal.returns

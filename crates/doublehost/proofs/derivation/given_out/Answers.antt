@@ -1,4 +1,3 @@
-use borrow.Author.Rules.{rules}
 use Rattle.doublehost.specs.DoubleLength.{given_out}
 use Rattle.doublehost.proofs.derivation.given_out.Goals as goal
 

@@ -1,4 +1,3 @@
-use borrow.Author.Rules.{rules}
 use Rattle.doublehost.specs.DoubleLength.{one_way}
 use Rattle.doublehost.proofs.derivation.one_way.Goals as goal
 

@@ -1,9 +1,6 @@
-use borrow.Author.Rules.{rules}
-use mathlib.Core.Path.{◌≡◌, refl}
+use mathlib.Core.Path.{◌≡◌}
 use Prim.Native.Nat.{◌≤◌}
-use native.Mathlib.Omega.{arith}
 use Rattle.registers.specs.RegisterKey.{derive}
-use Rattle.registers.proofs.Laws.{derive_turn, derive_last}
 use Rattle.doublehost.specs.DoubleLength.{one_way}
 use Rattle.doublehost.proofs.derivation.register_key.Given as goal
 

@@ -1,4 +1,3 @@
-use borrow.Author.Rules.{rules}
 use Rattle.lent.proofs.Results.{refused_double_block}
 use Rattle.registers.proofs.Laws.{initial_done, initial_refuses, tested_fit}
 use Rattle.doublehost.specs.DoubleLength.{double_length}

@@ -1,4 +1,3 @@
-use borrow.Author.Rules.{rules}
 use Rattle.doublehost.specs.DoubleLength.{initial_pair}
 use Rattle.doublehost.proofs.entries.initial_pair.Goals as goal
 

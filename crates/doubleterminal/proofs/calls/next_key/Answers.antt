@@ -1,14 +1,9 @@
-use borrow.Author.Rules.{rules}
-use borrow.Author.Tests.{not-true, not-false, lt-leb}
+use borrow.Author.Tests.{lt-leb}
 use mathlib.Core.Path.{refl, sym, ap, ◌∙◌}
 use mathlib.Core.Bool.{false≢true}
-use Prim.Native.Nat.{ℕ}
 use native.Mathlib.Omega.{arith}
 use lib.ListN.{length}
 use Rattle.lent.specs.Refusals.{bad_record, exhausted, short_buffer}
-use Rattle.lent.specs.Words.{word_bytes}
-use Rattle.lent.specs.Result.{over}
-use Rattle.lent.proofs.Bases.{to_length}
 use Rattle.lent.proofs.Results.{lent_all}
 use Rattle.registers.specs.Rule.{Valid}
 use Rattle.registers.proofs.Laws.{next_invalid, next_over, next_short, refused_next, given_next, runs_counted}

@@ -1,14 +1,8 @@
 use borrow.Author.Rules.{rules}
-use borrow.Author.Tests.{not-true, not-false}
 use borrow.Author.Count.{below_more}
-use mathlib.Core.Path.{◌≡◌, refl, sym, ◌∙◌}
+use mathlib.Core.Path.{refl, sym, ◌∙◌}
 use mathlib.Core.Bool.{false≢true}
-use mathlib.Core.Logic.{⊎_elim}
-use Prim.Native.Nat.{ℕ, ◌-◌, ◌≤◌, ◌<◌}
 use native.Mathlib.Omega.{arith}
-use lib.ListN.{get_or}
-use Rattle.registers.specs.Counters.{bit}
-use Rattle.doublehost.specs.DoubleLength.{no_key}
 use Rattle.doubleterminal.proofs.state.empties.Goals as goal
 use Rattle.doubleterminal.proofs.state.empties.Goals.{then-t-b-eq0+else-not-is_empty, else-t-b-eq0}
 

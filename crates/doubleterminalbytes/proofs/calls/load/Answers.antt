@@ -1,4 +1,3 @@
-use borrow.Author.Rules.{rules}
 use Rattle.lent.proofs.Results.{refused_answer}
 use Rattle.doublehost.specs.DoubleLength.{double_length}
 use Rattle.recordbytes.proofs.Calling.{load_refuses, load_gives}

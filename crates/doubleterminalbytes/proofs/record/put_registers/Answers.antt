@@ -1,11 +1,8 @@
 use borrow.Author.Rules.{rules}
 use mathlib.Core.Path.{◌≡◌, refl}
-use Prim.Native.Nat.{◌-◌, ◌≤◌}
 use native.Mathlib.Numerals.{add-one}
 use native.Mathlib.Omega.{arith}
-use lib.ListN.{length, take}
 use lib.Seq.{take_all}
-use Rattle.lent.specs.Private.{Appends}
 use Rattle.lent.proofs.Appending.{nothing_appended, both_appends}
 use Rattle.doublehost.specs.DoubleLength.{double_length}
 use Rattle.recordbytes.proofs.Bytes.{registers_snoc}

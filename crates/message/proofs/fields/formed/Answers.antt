@@ -1,4 +1,3 @@
-use borrow.Author.Tests.{not-true, not-false}
 use mathlib.Core.Path.{sym, ◌∙◌}
 use Rattle.message.specs.Fields.{formed}
 use Rattle.message.proofs.fields.formed.Goals as goal

@@ -1,4 +1,3 @@
-use borrow.Author.Tests.{not-true, not-false}
 use mathlib.Core.Path.{sym, ◌∙◌}
 use Rattle.message.specs.Records.{checked_field}
 use Rattle.message.proofs.records.refusal.Goals as goal

@@ -1,4 +1,3 @@
-use borrow.Author.Tests.{not-true, not-false}
 use mathlib.Core.Path.{refl, sym, ◌∙◌}
 use Rattle.lent.specs.Refusals.{size}
 use Rattle.lent.proofs.Results.{answered_done, answered_refused, refused_block, refuses_then}

@@ -1,4 +1,3 @@
-use borrow.Author.Tests.{not-true, not-false}
 use mathlib.Core.Path.{refl, sym, ◌∙◌}
 use Rattle.lent.specs.Refusals.{size, character}
 use Rattle.lent.proofs.Results.{refused_block}

@@ -1,4 +1,3 @@
-use borrow.Author.Rules.{rules}
 use Rattle.lent.proofs.Appending.{appended}
 use Rattle.recordbytes.proofs.parts.put.Goals as goal
 

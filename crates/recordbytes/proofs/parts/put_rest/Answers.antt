@@ -1,4 +1,3 @@
-use borrow.Author.Rules.{rules}
 use Rattle.recordbytes.proofs.Cutting.{none, part, all_appends}
 use Rattle.recordbytes.proofs.parts.put_rest.Goals as goal
 

@@ -1,8 +1,8 @@
 use borrow.Author.Rules.{rules}
 use mathlib.Core.Path.{◌≡◌, sym, ap, ◌∙◌}
-use Prim.Native.Nat.{ℕ, ◌+◌, ◌-◌, ◌≤◌}
+use Prim.Native.Nat.{ℕ, ◌+◌}
 use native.Mathlib.Omega.{arith}
-use Rattle.registers.specs.Machine.{fill, stepped}
+use Rattle.registers.specs.Machine.{stepped}
 use Rattle.registers.proofs.Laws.{bit_moved, fill_none, fill_turn}
 use Rattle.host.specs.SingleLength.{one_way, single_length}
 use Rattle.terminal.proofs.filling.filled_from.Goals as goal

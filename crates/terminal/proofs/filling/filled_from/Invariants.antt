@@ -1,10 +1,7 @@
-use borrow.Author.Rules.{rules}
-use mathlib.Core.Path.{◌≡◌, sym, ap, ◌∙◌}
-use Prim.Native.Nat.{ℕ, ◌+◌, ◌-◌, ◌≤◌}
-use native.Mathlib.Omega.{arith}
+use mathlib.Core.Path.{◌≡◌}
+use Prim.Native.Nat.{◌-◌, ◌≤◌}
 use Rattle.registers.specs.Machine.{fill, stepped}
-use Rattle.registers.proofs.Laws.{bit_moved, fill_none, fill_turn}
-use Rattle.host.specs.SingleLength.{one_way, single_length}
+use Rattle.host.specs.SingleLength.{single_length}
 use Rattle.terminal.proofs.filling.filled_from.Given as goal
 
 abbrev pub invariant-loop-b : goal.invariant-loop-b

@@ -1,12 +1,8 @@
 use borrow.Author.Rules.{rules}
 use borrow.Author.Count.{below_more}
-use mathlib.Core.Path.{◌≡◌, refl}
+use mathlib.Core.Path.{refl}
 use mathlib.Core.Bool.{false≢true}
-use mathlib.Core.Logic.{⊎_elim}
-use Prim.Native.Nat.{ℕ, ◌-◌, ◌≤◌, ◌<◌}
 use native.Mathlib.Omega.{arith}
-use lib.ListN.{get_or}
-use Rattle.registers.specs.Counters.{bit}
 use Rattle.terminal.proofs.state.empties.Goals as goal
 use Rattle.terminal.proofs.state.empties.Goals.{then-t-b-eq0+else-t-b-ne0, else-t-b-eq0}
 

@@ -1,4 +1,3 @@
-use borrow.Author.Rules.{rules}
 use Rattle.lent.proofs.Results.{refused_answer}
 use Rattle.host.specs.SingleLength.{single_length}
 use Rattle.recordbytes.proofs.Calling.{load_refuses, load_gives}

@@ -1,14 +1,8 @@
-use borrow.Author.Rules.{rules}
-use mathlib.Core.Path.{◌≡◌, refl}
+use mathlib.Core.Path.{◌≡◌}
 use Prim.Native.Nat.{◌-◌, ◌≤◌}
-use native.Mathlib.Numerals.{add-one}
-use native.Mathlib.Omega.{arith}
 use lib.ListN.{length, take}
-use lib.Seq.{take_all}
 use Rattle.lent.specs.Private.{Appends}
-use Rattle.lent.proofs.Appending.{nothing_appended, both_appends}
 use Rattle.host.specs.SingleLength.{single_length}
-use Rattle.recordbytes.proofs.Bytes.{registers_snoc}
 use Rattle.recordbytes.specs.RecordBytes.{register_bytes}
 use Rattle.terminalbytes.proofs.record.put_registers.Given as goal
 

@@ -1,14 +1,9 @@
-use borrow.Author.Rules.{rules}
-use mathlib.Core.Path.{◌≡◌, refl, sym, ap, ◌∙◌}
-use mathlib.Core.List.{List, [], ◌++◌, append-nil}
-use Prim.Native.Nat.{ℕ, ◌+◌, ◌-◌, ◌*◌, ◌≤◌}
-use native.Mathlib.Omega.{arith}
-use lib.ListN.{length, take, drop, length-drop}
-use lib.Seq.{take_all}
-use Rattle.lent.specs.Words.{word}
+use mathlib.Core.Path.{◌≡◌}
+use mathlib.Core.List.{◌++◌}
+use Prim.Native.Nat.{◌-◌, ◌*◌, ◌≤◌}
+use lib.ListN.{length, take, drop}
 use Rattle.host.specs.SingleLength.{single_length}
 use Rattle.recordbytes.specs.RecordBytes.{registers_of}
-use Rattle.recordbytes.proofs.Bytes.{registers_more}
 use Rattle.terminalbytes.proofs.record.registers_of.Given as goal
 
 abbrev pub invariant-loop-i : goal.invariant-loop-i
