@@ -3,7 +3,7 @@ ghost use Rattle.std.specs.Prelude.{◌≡◌};
 ghost use Rattle.keyentry.specs.Doubled.{doubled};
 
 // A number of hexadecimal digits, or a place among them.
-#[derive(Clone, Copy)]
+#[derive(Drop)]
 pub(crate) struct Digits(pub(crate) usize);
 
 // A number of bytes, or a place among them.

@@ -1,4 +1,6 @@
 // The MAC of free text and of a message (01, The message and its MAC text).
+#![tactic(auto)]
+
 ghost use Rattle.std.specs.Prelude.{◌≡◌, replicate};
 ghost use Rattle.lent.specs.Result.{done};
 ghost use Rattle.message.specs.Text.{joined_text};

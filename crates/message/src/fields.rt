@@ -33,6 +33,7 @@ pub(crate) enum Rule {
 }
 
 // The rule of a field number.
+#[tactic(auto, unfolding(crate::specs::Fields::table, crate::specs::Fields::rule_in, crate::specs::Fields::rule))]
 pub(crate) fn rule_of(field: usize) -> Rule
     ensures { result ≡ Fields.rule field }
 {

@@ -1,4 +1,6 @@
 // VIP numbers and their blocks, in the clear (02, M-102; source document 003, 5.4).
+#![tactic(auto)]
+
 ghost use Rattle.std.specs.Prelude.{◌≡◌, ◌≤◌, length};
 ghost use Rattle.lent.specs.ReadsBack.{gives};
 ghost use Rattle.lent.specs.Result.{Written};
