@@ -9,7 +9,7 @@ ghost use Rattle.cipher.specs.Tables.{permuted_choice1};
 use crate::exchange::exchange;
 
 // The sixteen round keys in the order in which they encrypt.
-#[derive(Drop)]
+#[derive(Clone, Copy)]
 pub struct Schedule {
     pub keys: [u64; 16],
 }

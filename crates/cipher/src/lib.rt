@@ -1,5 +1,7 @@
 // DES and two-key triple DES on words of 64 bits (FIPS 46-3). A word's highest bit is bit 1 of the standard, and the
 // low bit of each key byte has no effect.
+#![tactic(auto)]
+
 mod bits;
 mod checks;
 mod des;

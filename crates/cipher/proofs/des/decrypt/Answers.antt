@@ -1,0 +1,6 @@
+use Rattle.cipher.specs.Des.{decrypted}
+use Rattle.cipher.proofs.des.decrypt.Goals as goal
+
+pub returns : goal.returns
+unfolding decrypted
+returns c = simp c.schedule.ensures at c.decrypt_with.ensures

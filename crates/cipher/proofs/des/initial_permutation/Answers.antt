@@ -1,0 +1,9 @@
+use native.Mathlib.Omega.{arith}
+use Rattle.cipher.proofs.Exchanges.{exchanges, initial}
+use Rattle.cipher.proofs.des.initial_permutation.Goals as goal
+
+pub returns : goal.returns
+unfolding exchanges
+returns c =
+    rw (c.exchange.ensures, c.exchange-d.ensures, c.exchange-c.ensures, c.exchange-b.ensures, c.exchange-a.ensures)
+    (initial c.args.block (omega arith))
