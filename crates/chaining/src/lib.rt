@@ -1,4 +1,6 @@
 // Cipher block chaining, from zero.
+#![tactic(auto)]
+
 ghost use Rattle.std.specs.Prelude.{◌≡◌};
 ghost use Rattle.chaining.specs.Chain;
 

@@ -1,4 +1,6 @@
 // The block cipher under the bytes of a key: DES under 8, triple DES under 16 (01, The job and its edge; PIN blocks).
+#![tactic(auto)]
+
 ghost use Rattle.std.specs.Prelude.{◌≡◌};
 ghost use Rattle.lent.specs.Result.{Answered};
 ghost use Rattle.keyed.specs.Keyed.{key_size, changed_block, encrypt_block, decrypt_block};

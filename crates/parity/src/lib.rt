@@ -1,4 +1,6 @@
 // Odd parity of keys (02, M-103).
+#![tactic(auto)]
+
 ghost use Rattle.std.specs.Prelude.{◌≡◌};
 ghost use Rattle.parity.specs.Parity.{adjusted_byte, adjusted};
 
