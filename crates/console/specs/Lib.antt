@@ -1,1 +1,3 @@
 pub mod Arguments
+pub mod Counts
+pub mod Digits

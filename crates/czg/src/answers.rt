@@ -49,7 +49,7 @@ pub(crate) fn put_number(out: &mut [u8], n: usize, word: &[u8], number: u64) -> 
 {
     let k = put(out, n, word);
     let mut digits = [0u8; 20];
-    let count = io::decimal(number, &mut digits);
+    let count = console::decimal(number, &mut digits);
     put(out, k, &digits[..count])
 }
 

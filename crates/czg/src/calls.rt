@@ -229,7 +229,7 @@ fn answer_one(place: usize, i: Inputs, room: usize, bytes: &[u8], out: &mut [u8]
     requires n_in_bounds { n ≤ length out.old }
     ensures { result ≤ length out.new }
 {
-    let mut value = io::buffer();
+    let mut value = [0u8; 4096];
     let answer = call_with_room(place, i, room, bytes, &mut value);
     let length = answer.length;
     put_answer(out, n, place, answer, &value[..length])
@@ -275,8 +275,8 @@ fn answer_next_key(place: usize, record: &mut [u8], rooms: Rooms, out: &mut [u8]
     requires n_in_bounds { n ≤ length out.old }
     ensures { result ≤ length out.new }
 {
-    let mut key = io::buffer();
-    let mut serial = io::buffer();
+    let mut key = [0u8; 4096];
+    let mut serial = [0u8; 4096];
     let number = next_key(place, record, rooms, &mut key, &mut serial);
     if number != 0 {
         return put_refused(out, n, number);

@@ -1,5 +1,7 @@
 // Reads requests from standard input, one a line, and writes an answer for each on a line of its own, until the input ends. A request is an entry's
 // name and its inputs, or the self-test; `help` lists them.
+#![tactic(auto)]
+
 mod answers;
 mod calls;
 mod faults;
@@ -10,12 +12,17 @@ mod reading;
 mod requests;
 mod serving;
 
+use std::env::Env;
+use std::io::{Stderr, Stdout};
+
 // Whether the program was asked for something else than its work.
-fn asked(table: &[u8]) -> bool {
+fn asked(env: &impl Env, stdout: &mut Stdout, errors: &mut Stderr, table: &[u8]) -> bool {
     let mut argument = [0u8; 8];
-    let n = os::arg(1, &mut argument);
+    let n = console::argument(env, 1, &mut argument);
     console::answers_arguments(
-        os::arg_count(),
+        stdout,
+        errors,
+        console::argument_count(env),
         &argument[..n],
         b"czg",
         b"usage: czg <FILE   (czg --help lists the requests)\n",
@@ -23,7 +30,7 @@ fn asked(table: &[u8]) -> bool {
     )
 }
 
-fn main() {
+fn main(rt: HostRuntime) {
     // the requests, in the order of their places in `calls`, each with its inputs; then what help says of them
     let table = b"encrypt KEY BLOCK
 decrypt KEY BLOCK
@@ -66,8 +73,11 @@ self-test
 # After the value of clean, message-text, text-mac and message-mac: how many bytes of the text cleaning dropped, and how many spaces went out.
 # self-test takes no input and no room. Its answer is done, or failed and the number of the check.
 ";
-    if asked(table) {
+    let mut stdin = rt.stdin();
+    let mut stdout = rt.stdout();
+    let mut stderr = rt.stderr();
+    if asked(&rt, &mut stdout, &mut stderr, table) {
         return;
     }
-    reading::run(table);
+    reading::run(&mut stdin, &mut stdout, &mut stderr, table);
 }

@@ -7,6 +7,7 @@ use crate::faults::{NO_NAME, NO_ROOM, NO_VALUE, TOO_LONG};
 use crate::inputs::read_inputs;
 use crate::lines::find;
 use crate::requests::{name_of, rooms_of, says_room, usage_of, without_label};
+use std::io::{Stderr, Stdout};
 
 // The longest line.
 pub(crate) const MOST_LINE: usize = 16384;
@@ -75,11 +76,11 @@ pub(crate) struct Written {
 }
 
 // Writes the answers so far.
-pub(crate) fn flushed(out: &[u8], n: usize) -> Written
+pub(crate) fn flushed(stdout: &mut Stdout, errors: &mut Stderr, out: &[u8], n: usize) -> Written
     requires { n ≤ length out.now }
     ensures { result.count ≤ 0 }
 {
-    let written = console::write(b"czg", &out[..n]);
+    let written = console::write(stdout, errors, b"czg", &out[..n]);
     Written {
         count: 0,
         failed: written < n,
@@ -87,12 +88,12 @@ pub(crate) fn flushed(out: &[u8], n: usize) -> Written
 }
 
 // Writes the answers so far where there is no room for another.
-fn with_room(out: &[u8], n: usize) -> Written
+fn with_room(stdout: &mut Stdout, errors: &mut Stderr, out: &[u8], n: usize) -> Written
     requires { n ≤ length out.now }
     ensures { result.count ≤ length out.now }
 {
     if out.len() - n < MOST_ANSWER {
-        return flushed(out, n);
+        return flushed(stdout, errors, out, n);
     }
     Written {
         count: n,
@@ -129,6 +130,8 @@ fn answered(
 
 // Answers every whole line of a part of the input and writes the answers. The rest of a line that was too long has its answer.
 pub(crate) fn serve(
+    stdout: &mut Stdout,
+    errors: &mut Stderr,
     table: &[u8],
     input: &[u8],
     passing: bool,
@@ -145,7 +148,7 @@ pub(crate) fn serve(
         if end == input.len() {
             break;
         }
-        let room = with_room(out, n);
+        let room = with_room(stdout, errors, out, n);
         if room.failed {
             return Served {
                 at,
@@ -157,7 +160,7 @@ pub(crate) fn serve(
         rest = false;
         at = end + 1;
     }
-    let written = flushed(out, n);
+    let written = flushed(stdout, errors, out, n);
     Served {
         at,
         passing: rest,

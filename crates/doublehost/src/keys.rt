@@ -3,7 +3,7 @@ ghost use Rattle.std.specs.Prelude.{◌≡◌, true, ◌↔◌};
 ghost use Rattle.doublehost.specs.DoubleLength.{key_of, key_bytes, no_key};
 
 // A key by its halves.
-#[derive(Drop)]
+#[derive(Clone, Copy)]
 pub struct DoubleKey {
     pub left: u64,
     pub right: u64,

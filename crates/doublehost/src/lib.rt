@@ -1,4 +1,6 @@
 // The host's keys of a DUKPT terminal of double length (02, M-105; ANS X9.24-1), and the steps by which the terminal derives its own.
+#![tactic(auto)]
+
 mod derivation;
 mod entries;
 mod keys;

@@ -12,7 +12,7 @@ use doublehost::DoubleKey;
 
 // The answer of a call for the next key: 0, the counter given out, the serial number with that counter in it, and the record after it; or the
 // refusal's number, zeros, and the record as it was.
-#[derive(Drop)]
+#[derive(Clone, Copy)]
 pub struct NextKey {
     pub number: u32,
     pub counter: u32,

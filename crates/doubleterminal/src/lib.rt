@@ -1,4 +1,6 @@
 // A DUKPT terminal, double length (01, Terminal keys; 02, M-105): its record, loading, and the call for its next key.
+#![tactic(auto)]
+
 mod calls;
 mod filling;
 mod loading;

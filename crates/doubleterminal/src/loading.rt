@@ -11,7 +11,7 @@ use crate::state::Terminal;
 use registers::Position;
 
 // The answer of a loading: 0 and the record, or the refusal's number and the all-zero record.
-#[derive(Drop)]
+#[derive(Clone, Copy)]
 pub struct Loaded {
     pub number: u32,
     pub terminal: Terminal,

@@ -9,7 +9,7 @@ use doublehost::DoubleKey;
 use registers::Position;
 
 // Twenty-one registers of sixteen bytes, the serial number with its counter cleared, and where the terminal stands.
-#[derive(Drop)]
+#[derive(Clone, Copy)]
 pub struct Terminal {
     pub keys: [DoubleKey; 21],
     pub serial: [u8; 10],

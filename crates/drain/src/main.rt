@@ -1,9 +1,13 @@
 // One terminal of each length from loading to exhaustion, each key compared with the host's: source document 002's derivation key and serial
 // number for single length, ANS X9.24-1's for double length.
+#![tactic(auto)]
+
 mod seen;
 
 use doublehost::DoubleKey;
 use seen::{nothing, report, text, with_key};
+use std::env::Env;
+use std::io::{Stderr, Stdout};
 
 // A key of eight bytes.
 fn single(bytes: [u8; 8]) -> DoubleKey {
@@ -28,7 +32,12 @@ fn double_host_key(derivation_key: &[u8], serial_number: [u8; 10]) -> DoubleKey 
 }
 
 // Takes every key of a terminal of single length, at most 1,048,576 calls, and gives whether its report was written.
-fn drained(derivation_key: &[u8], loaded: terminal::Terminal) -> bool {
+fn drained(
+    out: &mut Stdout,
+    errors: &mut Stderr,
+    derivation_key: &[u8],
+    loaded: terminal::Terminal,
+) -> bool {
     let mut t = loaded;
     let mut seen = nothing(false);
     let mut calls: u64 = 0;
@@ -37,7 +46,7 @@ fn drained(derivation_key: &[u8], loaded: terminal::Terminal) -> bool {
         let mut buffer = [0u8; 8];
         let given = terminal::next_key(t, &mut buffer);
         if given.number != lent::DONE {
-            return report(seen, given.number);
+            return report(out, errors, seen, given.number);
         }
         let serial_number = given.serial;
         let host = host_key(derivation_key, serial_number);
@@ -45,11 +54,16 @@ fn drained(derivation_key: &[u8], loaded: terminal::Terminal) -> bool {
         let left = given.terminal;
         t = left;
     }
-    text(b"the terminal does not end\n")
+    text(out, errors, b"the terminal does not end\n")
 }
 
 // Takes every key of a terminal of double length, at most 1,048,576 calls, and gives whether its report was written.
-fn double_drained(derivation_key: &[u8], loaded: doubleterminal::Terminal) -> bool {
+fn double_drained(
+    out: &mut Stdout,
+    errors: &mut Stderr,
+    derivation_key: &[u8],
+    loaded: doubleterminal::Terminal,
+) -> bool {
     let mut t = loaded;
     let mut seen = nothing(true);
     let mut calls: u64 = 0;
@@ -58,7 +72,7 @@ fn double_drained(derivation_key: &[u8], loaded: doubleterminal::Terminal) -> bo
         let mut buffer = [0u8; 16];
         let given = doubleterminal::next_key(t, &mut buffer);
         if given.number != lent::DONE {
-            return report(seen, given.number);
+            return report(out, errors, seen, given.number);
         }
         let serial_number = given.serial;
         let host = double_host_key(derivation_key, serial_number);
@@ -66,43 +80,45 @@ fn double_drained(derivation_key: &[u8], loaded: doubleterminal::Terminal) -> bo
         let left = given.terminal;
         t = left;
     }
-    text(b"the terminal does not end\n")
+    text(out, errors, b"the terminal does not end\n")
 }
 
 // Loads a terminal of single length and takes every key; gives whether its report was written.
-fn drain() -> bool {
+fn drain(out: &mut Stdout, errors: &mut Stderr) -> bool {
     let derivation_key = b"\x51\x52\x54\x57\x58\x5B\x5D\x5E\x61\x62\x64\x67\x68\x6B\x6D\x6E";
     let serial_number = b"\x01\x23\x45\x67\x89\xAB\xCD\xF0\x00\x01";
     let initial = host::initial_key(derivation_key, serial_number);
     let key = initial.value;
     let loaded = terminal::load(&key, serial_number);
     if loaded.number != lent::DONE {
-        return text(b"not loaded\n");
+        return text(out, errors, b"not loaded\n");
     }
     let t = loaded.terminal;
-    drained(derivation_key, t)
+    drained(out, errors, derivation_key, t)
 }
 
 // Loads a terminal of double length and takes every key; gives whether its report was written.
-fn double_drain() -> bool {
+fn double_drain(out: &mut Stdout, errors: &mut Stderr) -> bool {
     let derivation_key = b"\x01\x23\x45\x67\x89\xAB\xCD\xEF\xFE\xDC\xBA\x98\x76\x54\x32\x10";
     let serial_number = b"\xFF\xFF\x98\x76\x54\x32\x10\xE0\x00\x00";
     let initial = doublehost::initial_key(derivation_key, serial_number);
     let key = initial.value;
     let loaded = doubleterminal::load(&key, serial_number);
     if loaded.number != lent::DONE {
-        return text(b"not loaded\n");
+        return text(out, errors, b"not loaded\n");
     }
     let t = loaded.terminal;
-    double_drained(derivation_key, t)
+    double_drained(out, errors, derivation_key, t)
 }
 
 // Whether the program was asked for something else than its work.
-fn asked() -> bool {
+fn asked(env: &impl Env, out: &mut Stdout, errors: &mut Stderr) -> bool {
     let mut argument = [0u8; 8];
-    let n = os::arg(1, &mut argument);
+    let n = console::argument(env, 1, &mut argument);
     console::answers_arguments(
-        os::arg_count(),
+        out,
+        errors,
+        console::argument_count(env),
         &argument[..n],
         b"drain",
         b"usage: drain   (drain --help says more)\n",
@@ -114,11 +130,13 @@ of all, and the number with which the call after the last key was refused.
     )
 }
 
-fn main() {
-    if asked() {
+fn main(rt: HostRuntime) {
+    let mut stdout = rt.stdout();
+    let mut stderr = rt.stderr();
+    if asked(&rt, &mut stdout, &mut stderr) {
         return;
     }
-    if drain() {
-        double_drain();
+    if drain(&mut stdout, &mut stderr) {
+        double_drain(&mut stdout, &mut stderr);
     }
 }

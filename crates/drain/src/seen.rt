@@ -1,8 +1,9 @@
 // What is seen of a terminal's keys, and its report. A key of eight bytes is the left half of one of sixteen.
 use doublehost::DoubleKey;
+use std::io::{Stderr, Stdout};
 
 // What was seen of the keys so far, of double length or not.
-#[derive(Drop)]
+#[derive(Clone, Copy)]
 pub(crate) struct Seen {
     double: bool,
     keys: u64,
@@ -35,7 +36,7 @@ fn mixed(x: u64, other: u64) -> u64 {
 
 // A count, one more.
 fn one_more(n: u64) -> u64 {
-    std::num::wrapping_add_u64(n, 1)
+    n.wrapping_add(1)
 }
 
 // Whether two keys are the same.
@@ -67,65 +68,94 @@ pub(crate) fn with_key(seen: Seen, key: DoubleKey, host: DoubleKey, counter: u32
 // ---- the report
 
 // Writes a text, and gives whether all of it was written.
-pub(crate) fn text(s: &[u8]) -> bool {
-    console::write(b"drain", s) == s.len()
+pub(crate) fn text(out: &mut Stdout, errors: &mut Stderr, s: &[u8]) -> bool {
+    console::write(out, errors, b"drain", s) == s.len()
 }
 
 // Writes the hexadecimal digits of up to eight bytes.
-fn digits(s: &[u8]) -> bool {
+fn digits(out: &mut Stdout, errors: &mut Stderr, s: &[u8]) -> bool {
     let mut room = [0u8; 16];
     let made = keyentry::append_text(&mut room, 0, s);
     let k = made.length;
-    text(&room[..k])
+    text(out, errors, &room[..k])
 }
 
 // Writes a number in decimal.
-fn number(n: u64) -> bool {
+fn number(out: &mut Stdout, errors: &mut Stderr, n: u64) -> bool {
     let mut room = [0u8; 20];
-    let k = io::decimal(n, &mut room);
-    text(&room[..k])
+    let k = console::decimal(n, &mut room);
+    text(out, errors, &room[..k])
 }
 
 // Writes a line: what it is, and a number.
-fn count_line(what: &[u8], n: u64) -> bool {
-    text(what) && number(n) && text(b"\n")
+fn count_line(out: &mut Stdout, errors: &mut Stderr, what: &[u8], n: u64) -> bool {
+    text(out, errors, what) && number(out, errors, n) && text(out, errors, b"\n")
 }
 
 // Writes what it is, and a key.
-fn key_digits(what: &[u8], key: DoubleKey, double: bool) -> bool {
-    text(what)
-        && digits(&lent::bytes_of(key.left))
-        && (!double || digits(&lent::bytes_of(key.right)))
+fn key_digits(
+    out: &mut Stdout,
+    errors: &mut Stderr,
+    what: &[u8],
+    key: DoubleKey,
+    double: bool,
+) -> bool {
+    text(out, errors, what)
+        && digits(out, errors, &lent::bytes_of(key.left))
+        && (!double || digits(out, errors, &lent::bytes_of(key.right)))
 }
 
 // Writes a line: what it is, and a key.
-fn word_line(what: &[u8], key: DoubleKey, double: bool) -> bool {
-    key_digits(what, key, double) && text(b"\n")
+fn word_line(
+    out: &mut Stdout,
+    errors: &mut Stderr,
+    what: &[u8],
+    key: DoubleKey,
+    double: bool,
+) -> bool {
+    key_digits(out, errors, what, key, double) && text(out, errors, b"\n")
 }
 
 // Writes a line: what it is, a key, and its counter in hexadecimal.
-fn key_line(what: &[u8], key: DoubleKey, double: bool, counter: u32) -> bool {
+fn key_line(
+    out: &mut Stdout,
+    errors: &mut Stderr,
+    what: &[u8],
+    key: DoubleKey,
+    double: bool,
+    counter: u32,
+) -> bool {
     let x = counter % 0x1000000;
     let shown = [(x / 65536) as u8, (x / 256 % 256) as u8, (x % 256) as u8];
-    key_digits(what, key, double) && text(b" counter ") && digits(&shown) && text(b"\n")
+    key_digits(out, errors, what, key, double)
+        && text(out, errors, b" counter ")
+        && digits(out, errors, &shown)
+        && text(out, errors, b"\n")
 }
 
 // The line above a report.
-fn length_line(double: bool) -> bool {
+fn length_line(out: &mut Stdout, errors: &mut Stderr, double: bool) -> bool {
     if double {
-        return text(b"double length\n");
+        return text(out, errors, b"double length\n");
     }
-    text(b"single length\n")
+    text(out, errors, b"single length\n")
 }
 
 // Writes what was seen, and how the call after the last key was answered, up to the first write that fails.
-pub(crate) fn report(seen: Seen, number: u32) -> bool {
+pub(crate) fn report(out: &mut Stdout, errors: &mut Stderr, seen: Seen, number: u32) -> bool {
     let double = seen.double;
-    length_line(double)
-        && count_line(b"keys ", seen.keys)
-        && count_line(b"differed from the host ", seen.differed)
-        && key_line(b"first ", seen.first, double, seen.first_counter)
-        && key_line(b"last ", seen.last, double, seen.last_counter)
-        && word_line(b"checksum ", seen.checksum, double)
-        && count_line(b"then refused ", number as u64)
+    length_line(out, errors, double)
+        && count_line(out, errors, b"keys ", seen.keys)
+        && count_line(out, errors, b"differed from the host ", seen.differed)
+        && key_line(
+            out,
+            errors,
+            b"first ",
+            seen.first,
+            double,
+            seen.first_counter,
+        )
+        && key_line(out, errors, b"last ", seen.last, double, seen.last_counter)
+        && word_line(out, errors, b"checksum ", seen.checksum, double)
+        && count_line(out, errors, b"then refused ", number as u64)
 }

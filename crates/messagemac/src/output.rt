@@ -20,7 +20,7 @@ fn append_decimal(out: &mut [u8], n: usize, number: u64) -> usize
     ensures { Appends (decimal number) out.old out.new n result }
 {
     let mut digits = [0u8; 20];
-    let count = io::decimal(number, &mut digits);
+    let count = console::decimal(number, &mut digits);
     append(out, n, &digits[..count])
 }
 

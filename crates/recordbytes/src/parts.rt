@@ -7,7 +7,7 @@ ghost use Rattle.recordbytes.specs.RecordBytes.{number_bytes, rest_sizes, rest_p
 use registers::Position;
 
 // What stands after the registers: the serial number, and where the terminal stands.
-#[derive(Drop)]
+#[derive(Clone, Copy)]
 pub struct Rest {
     pub serial: [u8; 10],
     pub position: Position,

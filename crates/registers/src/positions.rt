@@ -5,7 +5,7 @@ ghost use Rattle.registers.specs.Machine.{position_at, position_after, InOrder};
 use crate::counters::{filled_mask, next_counter, permitted};
 
 // The counter to be given out next, which registers are filled (bit b for register b), and whether the terminal is exhausted.
-#[derive(Drop)]
+#[derive(Clone, Copy)]
 pub struct Position {
     pub counter: u32,
     pub filled: u32,

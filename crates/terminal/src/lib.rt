@@ -1,4 +1,6 @@
 // A DUKPT terminal, single length (01, Terminal keys): its record, loading, and the call for its next key.
+#![tactic(auto)]
+
 mod calls;
 mod filling;
 mod loading;

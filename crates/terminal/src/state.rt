@@ -8,7 +8,7 @@ ghost use Rattle.terminal.specs.View.{view};
 use registers::Position;
 
 // Twenty-one registers of eight bytes, the serial number with its counter cleared, and where the terminal stands.
-#[derive(Drop)]
+#[derive(Clone, Copy)]
 pub struct Terminal {
     pub keys: [u64; 21],
     pub serial: [u8; 10],

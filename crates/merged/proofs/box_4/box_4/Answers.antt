@@ -1,5 +1,7 @@
--- Each arm gives the word of the table that stands there. Made by tests/tables.
-use Rattle.std.proofs.Common.{◌≡◌, ◌%◌, arith}
+-- `merged::box_4::box_4` meets its contract. Made by tests/tables.
+use mathlib.Core.Path.{◌≡◌}
+use Prim.Native.Nat.{◌%◌}
+use native.Mathlib.Omega.{arith}
 use Rattle.merged.specs.RoundWords.{box4}
 use Rattle.merged.proofs.box_4.box_4.Goals as goal
 

@@ -1,5 +1,7 @@
--- Each arm gives the word of the table that stands there. Made by tests/tables.
-use Rattle.std.proofs.Common.{◌≡◌, ◌%◌, arith}
+-- `merged::box_7::box_7` meets its contract. Made by tests/tables.
+use mathlib.Core.Path.{◌≡◌}
+use Prim.Native.Nat.{◌%◌}
+use native.Mathlib.Omega.{arith}
 use Rattle.merged.specs.RoundWords.{box7}
 use Rattle.merged.proofs.box_7.box_7.Goals as goal
 

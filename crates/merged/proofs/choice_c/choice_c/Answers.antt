@@ -1,5 +1,7 @@
--- Each arm gives the word of the table that stands there. Made by tests/tables.
-use Rattle.std.proofs.Common.{◌≡◌, ◌%◌, arith}
+-- `merged::choice_c::choice_c` meets its contract. Made by tests/tables.
+use mathlib.Core.Path.{◌≡◌}
+use Prim.Native.Nat.{◌%◌}
+use native.Mathlib.Omega.{arith}
 use Rattle.merged.specs.ChoiceWords.{choice_c}
 use Rattle.merged.proofs.choice_c.choice_c.Goals as goal
 

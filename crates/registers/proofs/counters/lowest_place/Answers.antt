@@ -1,4 +1,3 @@
-use borrow.Author.Rules.{rules}
 use native.Mathlib.Omega.{arith}
 use lib.Count.{trailing_le}
 use Rattle.registers.proofs.counters.lowest_place.Goals as goal

@@ -1,4 +1,3 @@
-use borrow.Author.Rules.{rules}
 use mathlib.Core.Path.{ap, ◌∙◌}
 use Rattle.registers.specs.Machine.{position_at, position_after}
 use Rattle.registers.proofs.positions.position_after.Goals as goal

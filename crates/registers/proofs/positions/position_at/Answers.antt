@@ -1,4 +1,3 @@
-use borrow.Author.Rules.{rules}
 use Rattle.registers.specs.Machine.{position_at}
 use Rattle.registers.proofs.positions.position_at.Goals as goal
 

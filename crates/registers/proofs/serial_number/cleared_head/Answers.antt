@@ -1,4 +1,3 @@
-use borrow.Author.Rules.{rules}
 use native.Mathlib.Omega.{arith}
 use Rattle.registers.specs.SerialNumber.{cleared_head}
 use Rattle.registers.proofs.serial_number.cleared_head.Goals as goal

@@ -1,4 +1,3 @@
-use borrow.Author.Rules.{rules}
 use Rattle.registers.specs.SerialNumber.{counter_of}
 use Rattle.registers.proofs.serial_number.counter_of.Goals as goal
 

@@ -1,4 +1,3 @@
-use borrow.Author.Rules.{rules}
 use Rattle.registers.specs.SerialNumber.{with_counter}
 use Rattle.registers.proofs.serial_number.with_counter.Goals as goal
 

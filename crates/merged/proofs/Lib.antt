@@ -1,2 +1,0 @@
--- The arms of a match on a number.
-mod Arms

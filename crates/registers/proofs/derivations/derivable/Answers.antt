@@ -1,0 +1,25 @@
+use borrow.Author.Tests.{eq-eqb, ne_eqb}
+use mathlib.Core.Path.{◌≡◌, ap₂, ◌∙◌}
+use Rattle.cipher.specs.Keys.{same_key}
+use Rattle.registers.specs.Host.{same_halves, derivable}
+use Rattle.registers.proofs.derivations.derivable.Goals as goal
+
+pub returns-then-derivation_key-ne16 : goal.returns-then-derivation_key-ne16
+unfolding derivable
+returns-then-derivation_key-ne16 c = simp (ne_eqb _ _ c.if-derivation_key-ne16.true)
+
+pub returns-then-serial_number-ne10 : goal.returns-then-serial_number-ne10
+unfolding derivable
+returns-then-serial_number-ne10 c = simp (eq-eqb _ _ c.if-derivation_key-ne16.false, ne_eqb _ _ c.if-serial_number-ne10.true)
+
+pub returns-then-same_key : goal.returns-then-same_key
+unfolding derivable
+returns-then-same_key c =
+    let compared : c.same_key.result ≡ same_halves c.args.derivation_key.now = c.same_key.ensures ∙ ap₂ same_key c.word_of.ensures c.right_half.ensures in
+    simp (eq-eqb _ _ c.if-derivation_key-ne16.false, eq-eqb _ _ c.if-serial_number-ne10.false, ← compared, c.if-same_key.true)
+
+pub returns : goal.returns
+unfolding derivable
+returns c =
+    let compared : c.same_key.result ≡ same_halves c.args.derivation_key.now = c.same_key.ensures ∙ ap₂ same_key c.word_of.ensures c.right_half.ensures in
+    simp (eq-eqb _ _ c.if-derivation_key-ne16.false, eq-eqb _ _ c.if-serial_number-ne10.false, ← compared, c.if-same_key.false)
