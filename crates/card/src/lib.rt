@@ -1,4 +1,6 @@
 // A card's keys and the cryptograms of its transactions (01, The card's keys and cryptograms).
+#![tactic(auto)]
+
 mod cryptograms;
 mod derivation;
 mod keys;
