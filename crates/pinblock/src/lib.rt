@@ -1,4 +1,6 @@
 // PIN blocks, clear and encrypted (01, PIN blocks).
+#![tactic(auto)]
+
 mod card_number;
 mod encrypted;
 mod half_bytes;
