@@ -37,7 +37,7 @@ def declared(files):
 
 
 # Where names fall together and the rule would not do: a definition has the plain name before a lemma that port.py has respelt already, and a field may have a definition's.
-CHOSEN = {"sameBytes": "same_bytes", "same_bytes": "same_bytes_lem", "recordAfter": "record_after", "record-after": "record_after"}
+CHOSEN = {"sameBytes": "same_bytes", "same_bytes": "same_bytes_lem", "recordAfter": "record_after", "record-after": "record_after", "exhaustedByte": "exhausted_byte", "exhausted-byte": "exhausted_byte"}
 
 
 def snake(name):

@@ -10,7 +10,7 @@ use crate::numbers::{Decimal, number_of};
 
 // What was read of a line's inputs: 0 or why it is no request, how many inputs of bytes there are, up to two, where the bytes of the first, the second and the
 // last end, and the number.
-#[derive(Drop)]
+#[derive(Clone, Copy)]
 pub(crate) struct Inputs {
     pub(crate) fault: u8,
     pub(crate) count: u8,

@@ -7,11 +7,11 @@ use native.Mathlib.Numerals.{unary_clauses}
 use native.Mathlib.Omega.{arith}
 use lib.Dec.{leb, ltb}
 use lib.ListN.{length, length-append}
-use Rattle.io.specs.Digits.{last_digits, IsDigitCount}
+use Rattle.console.specs.Digits.{last_digits, IsDigitCount}
 use Rattle.lent.proofs.Laws.{cases}
 use Rattle.messagemac.specs.Output.{decimal_in, decimal}
 
-digits_are : (k room n : ℕ) → IsDigitCount 10 1 n k → k ≤ room → last_digits 10 k n ≡ decimal_in room n
+digits_are : (k room n : ℕ) → IsDigitCount n k → k ≤ room → last_digits k n ≡ decimal_in room n
 unfolding decimal_in
 digits_are zero room n w h = absurd (omega (arith, w.0))
 digits_are (suc k) zero n w h = absurd (omega arith)
@@ -21,12 +21,12 @@ digits_are (suc zero) (suc room) n w h =
 digits_are (suc (suc k)) (suc room) n w h =
     let least : 10 ^ k * 10 ≤ n = simp unary_clauses at (w.2 (omega arith)) in
     let large : 10 ≤ n = omega (arith, least, one-le-pow k 10 (omega arith)) in
-    let tenth : IsDigitCount 10 1 (n / 10) (suc k) =
+    let tenth : IsDigitCount (n / 10) (suc k) =
     (omega arith, omega (arith, w.1, pow-suc 10 (suc k)), λ o. simp unary_clauses (omega (arith, least))) in
     simp (le-ltb n 10 large, digits_are (suc k) room (n / 10) tenth (omega arith), lt-ltb (n % 10) 10 (omega arith), add_comm 48 (n % 10))
 
 -- 20 digits are enough for a number of 64 bits
-fewest_short : (k n : ℕ) → IsDigitCount 10 1 n k → n < 18446744073709551616 → k ≤ 20
+fewest_short : (k n : ℕ) → IsDigitCount n k → n < 18446744073709551616 → k ≤ 20
 fewest_short k n w h =
     cases (leb k 20) (λ t. leb-true k 20 t)
     (λ f.
@@ -34,7 +34,7 @@ fewest_short k n w h =
     let power : 10 ^ 20 ≤ 10 ^ (k - 1) = pow-le-pow_right (omega arith) {i = 20} {j = k - 1} (omega arith) in
     absurd (omega (arith, power, w.2 (omega arith))))
 
-pub decimal_digits : (k n : ℕ) → IsDigitCount 10 1 n k → n < 18446744073709551616 → last_digits 10 k n ≡ decimal n
+pub decimal_digits : (k n : ℕ) → IsDigitCount n k → n < 18446744073709551616 → last_digits k n ≡ decimal n
 unfolding decimal
 decimal_digits k n w h = digits_are k 20 n w (fewest_short k n w h)
 

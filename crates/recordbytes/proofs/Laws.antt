@@ -55,7 +55,7 @@ module _ {K : Type 0} (device : Device K) where
   unfolding next_key_of next_key
   other_bytes bytes long bad enough =
       rw (eq-eqb _ _ long) (cases (leb (get_or bytes (last_place device) 0) 1)
-      (λ e. rw (e, if_neg (valid? device _) (λ ok. bad (record { size = long; exhausted_byte_lem = leb-true _ _ e; hangs_together = ok }))))
+      (λ e. rw (e, if_neg (valid? device _) (λ ok. bad (record { size = long; exhausted_byte = leb-true _ _ e; hangs_together = ok }))))
       (λ e. rw e))
 
   module _ (lawful : Lawful device) where
@@ -101,7 +101,7 @@ module _ {K : Type 0} (device : Device K) where
 
       -- the bytes of a record that hangs together are valid
       pub written_valid : Valid device s → ValidBytes device (record_bytes device s)
-      written_valid ok = record { size = written_length; exhausted_byte_lem = last_byte; hangs_together = rw read_written ok }
+      written_valid ok = record { size = written_length; exhausted_byte = last_byte; hangs_together = rw read_written ok }
 
       -- the call with them is the call with the record
       pub written_next : (enough : Bool) → next_key_of device (record_bytes device s) enough ≡ next_key device s enough
@@ -138,6 +138,6 @@ module _ {K : Type 0} (device : Device K) where
     pub valid_bytes : (bytes : List ℕ) → Digits 256 bytes
         → ValidBytes device bytes ↔ ((s : State K) × Fits s × Valid device s × (record_bytes device s ≡ bytes))
     valid_bytes bytes d = (
-      λ v. (state_of device bytes, read_fits bytes v.size d, v.hangs_together, written_read bytes v.size d v.exhausted_byte_lem),
+      λ v. (state_of device bytes, read_fits bytes v.size d, v.hangs_together, written_read bytes v.size d v.exhausted_byte),
       λ h. rw h.3 at (written_valid h.0 h.1 h.2),
     )

@@ -86,5 +86,5 @@ module _ {K : Type 0} (device : Device K) where
   -- bytes are a valid record: they have its size, the last of them is 0 or 1, and the record of them hangs together
   pub record ValidBytes (bytes : List ℕ) : Type 0 where
     pub size : length bytes ≡ record_size
-    pub exhausted_byte_lem : get_or bytes last_place 0 ≤ 1
+    pub exhausted_byte : get_or bytes last_place 0 ≤ 1
     pub hangs_together : Valid device (state_of bytes)

@@ -1,0 +1,23 @@
+use borrow.Author.Rules.{rules}
+use borrow.Author.Count.{below_more}
+use mathlib.Core.Path.{◌≡◌, refl}
+use mathlib.Core.Bool.{false≢true}
+use mathlib.Core.Logic.{⊎_elim}
+use Prim.Native.Nat.{ℕ, ◌-◌, ◌≤◌, ◌<◌}
+use native.Mathlib.Omega.{arith}
+use lib.ListN.{get_or}
+use Rattle.registers.specs.Counters.{bit}
+use Rattle.terminal.proofs.state.empties.Goals as goal
+use Rattle.terminal.proofs.state.empties.Goals.{then-t-b-eq0+else-t-b-ne0, else-t-b-eq0}
+
+pub loop-b-init : goal.loop-b-init
+loop-b-init c = (search rules, λ j h. absurd (omega arith))
+
+pub returns-then-t-b-ne0 : goal.returns-then-t-b-ne0
+returns-then-t-b-ne0 c = (λ e. absurd (false≢true e), λ h. absurd (c.if-t-b-ne0.true (h c.loop-b.b (omega arith) c.if-t-b-eq0.true)))
+
+pub loop-b-preserved : goal.loop-b-preserved
+loop-b-preserved c = (search rules, below_more _ _ c.loop-b.invariant.1 (λ e. elim c.if-t-b-eq0.branch [ then-t-b-eq0+else-t-b-ne0 w ↦ w.if-t-b-ne0.false | else-t-b-eq0 w ↦ absurd (w.if-t-b-eq0.false e) ]))
+
+pub returns : goal.returns
+returns c = (λ e b h. c.loop-b.invariant.1 b (omega arith), λ h. refl)
