@@ -1,0 +1,5 @@
+use borrow.Author.Rules.{rules}
+use Rattle.chizuregwo.proofs.cards.czg_arqc.Goals as goal
+
+pub returns : goal.returns
+returns c = c.lend_block.ensures 8 _ c.arqc.ensures
