@@ -23,7 +23,7 @@ digits_are (suc (suc k)) (suc room) n w h =
     let large : 10 ≤ n = omega (arith, least, one-le-pow k 10 (omega arith)) in
     let tenth : IsDigitCount (n / 10) (suc k) =
     (omega arith, omega (arith, w.1, pow-suc 10 (suc k)), λ o. simp unary_clauses (omega (arith, least))) in
-    simp (le-ltb n 10 large, digits_are (suc k) room (n / 10) tenth (omega arith), lt-ltb (n % 10) 10 (omega arith), add_comm 48 (n % 10))
+    simp (le-ltb n 10 large, digits_are (suc k) room (n / 10) tenth (omega arith), add_comm 48 (n % 10))
 
 -- 20 digits are enough for a number of 64 bits
 fewest_short : (k n : ℕ) → IsDigitCount n k → n < 18446744073709551616 → k ≤ 20
