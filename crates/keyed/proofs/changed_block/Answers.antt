@@ -20,7 +20,7 @@ returns-then-block-ne8 c = refused_block c.refused_block.ensures (size, refl, si
 pub returns-then-not-key_sized : goal.returns-then-not-key_sized
 unfolding changed_block
 returns-then-not-key_sized c =
-    let no = sym c.key_sized.ensures ∙ not-true _ c.if-not-key_sized.true-raw in
+    let no = sym c.key_sized.ensures ∙ c.if-not-key_sized.true in
     refused_block c.refused_block-then-not-key_sized.ensures (size, refl, simp (eq-eqb _ _ c.if-block-ne8.false, no))
 
 -- by the halves of a key and under its bytes
@@ -33,6 +33,6 @@ pub returns : goal.returns
 unfolding changed_block
 returns c =
     let a = c.args in
-    let yes = sym c.key_sized.ensures ∙ not-false _ c.if-not-key_sized.false-raw in
+    let yes = sym c.key_sized.ensures ∙ c.if-not-key_sized.false in
     let changed = rw (c.word_of-left.ensures, c.right_half-right.ensures, c.word_of.ensures) at c.changed_word.ensures ∙ under a.direction a.key.now _ in
     simp (eq-eqb _ _ c.if-block-ne8.false, yes, ← changed) c.block_of.ensures

@@ -17,11 +17,11 @@ returns-then-block-ne24 c =
 pub returns-then-not-makes : goal.returns-then-not-makes
 unfolding read
 returns-then-not-makes c =
-    let no = sym c.makes.ensures ∙ not-true _ c.if-not-makes.true-raw in
+    let no = sym c.makes.ensures ∙ c.if-not-makes.true in
     refused_answer c.refused-then-not-makes.ensures (bad_block, refl, simp (eq-eqb _ _ c.if-block-ne24.false, ← c.framed_text-password.ensures, no))
 
 pub returns : goal.returns
 unfolding read
 returns c =
-    let yes = sym c.makes.ensures ∙ not-false _ c.if-not-makes.false-raw in
+    let yes = sym c.makes.ensures ∙ c.if-not-makes.false in
     simp (eq-eqb _ _ c.if-block-ne24.false, ← c.framed_text-password.ensures, yes) c.lend.ensures

@@ -14,12 +14,12 @@ pub returns-then-not-sized : goal.returns-then-not-sized
 unfolding arqc
 returns-then-not-sized c =
     refused_block c.refused_block-then-not-sized.ensures
-    (size, refl, simp (eq-eqb _ _ c.if-session_key-ne16.false, sym c.sized.ensures ∙ not-true _ c.if-not-sized.true-raw))
+    (size, refl, simp (eq-eqb _ _ c.if-session_key-ne16.false, sym c.sized.ensures ∙ c.if-not-sized.true))
 
 pub arqc_word-requires : goal.arqc_word-requires
-arqc_word-requires c = (between_true 1 255 _ (sym c.sized.ensures ∙ not-false _ c.if-not-sized.false-raw)).1
+arqc_word-requires c = (between_true 1 255 _ (sym c.sized.ensures ∙ c.if-not-sized.false)).1
 
 pub returns : goal.returns
 unfolding arqc
 returns c =
-    simp (eq-eqb _ _ c.if-session_key-ne16.false, (sym c.sized.ensures ∙ not-false _ c.if-not-sized.false-raw), ← c.arqc_word.ensures) c.block_of.ensures
+    simp (eq-eqb _ _ c.if-session_key-ne16.false, (sym c.sized.ensures ∙ c.if-not-sized.false), ← c.arqc_word.ensures) c.block_of.ensures

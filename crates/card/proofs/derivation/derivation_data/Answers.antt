@@ -9,24 +9,24 @@ use Rattle.card.proofs.derivation.derivation_data.Goals as goal
 pub returns-then-not-card_sized : goal.returns-then-not-card_sized
 unfolding derivation_data
 returns-then-not-card_sized c =
-    refused_block c.refused_block.ensures (size, refl, simp (sym c.card_sized.ensures ∙ not-true _ c.if-not-card_sized.true-raw))
+    refused_block c.refused_block.ensures (size, refl, simp (sym c.card_sized.ensures ∙ c.if-not-card_sized.true))
 
 pub returns-then-sequence-gt99 : goal.returns-then-sequence-gt99
 unfolding derivation_data
 returns-then-sequence-gt99 c =
     let large = lt-leb c.args.sequence 99 (omega arith) in
-    refused_block c.refused_block-then-sequence-gt99.ensures (size, refl, simp ((sym c.card_sized.ensures ∙ not-false _ c.if-not-card_sized.false-raw), large))
+    refused_block c.refused_block-then-sequence-gt99.ensures (size, refl, simp ((sym c.card_sized.ensures ∙ c.if-not-card_sized.false), large))
 
 pub returns-then-not-all_digits : goal.returns-then-not-all_digits
 unfolding derivation_data
 returns-then-not-all_digits c =
     refused_block c.refused_block-then-not-all_digits.ensures
-    (character, refl, simp ((sym c.card_sized.ensures ∙ not-false _ c.if-not-card_sized.false-raw), (le-leb c.args.sequence 99 (omega arith)), sym c.all_digits.ensures ∙ not-true _ c.if-not-all_digits.true-raw))
+    (character, refl, simp ((sym c.card_sized.ensures ∙ c.if-not-card_sized.false), (le-leb c.args.sequence 99 (omega arith)), sym c.all_digits.ensures ∙ c.if-not-all_digits.true))
 
 pub derivation_word-requires : goal.derivation_word-requires
-derivation_word-requires c = (sym c.all_digits.ensures ∙ not-false _ c.if-not-all_digits.false-raw)
+derivation_word-requires c = (sym c.all_digits.ensures ∙ c.if-not-all_digits.false)
 
 pub returns : goal.returns
 unfolding derivation_data
 returns c =
-    simp ((sym c.card_sized.ensures ∙ not-false _ c.if-not-card_sized.false-raw), (le-leb c.args.sequence 99 (omega arith)), (sym c.all_digits.ensures ∙ not-false _ c.if-not-all_digits.false-raw), ← c.derivation_word.ensures) c.block_of.ensures
+    simp ((sym c.card_sized.ensures ∙ c.if-not-card_sized.false), (le-leb c.args.sequence 99 (omega arith)), (sym c.all_digits.ensures ∙ c.if-not-all_digits.false), ← c.derivation_word.ensures) c.block_of.ensures

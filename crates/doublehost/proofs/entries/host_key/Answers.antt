@@ -18,18 +18,18 @@ returns-then-number-ne-DONE c =
 pub returns-then-not-permitted : goal.returns-then-not-permitted
 returns-then-not-permitted c =
     let fits = tested_fit double_length _ _ c.derivable-number.ensures c.if-number-ne-DONE.false in
-    let bad : ¬ Permitted c.counter_of-counter.result = λ ok. false≢true (sym (not-true _ c.if-not-permitted.true-raw) ∙ c.permitted.ensures.1 ok) in
+    let bad : ¬ Permitted c.counter_of-counter.result = λ ok. false≢true (sym c.if-not-permitted.true ∙ c.permitted.ensures.1 ok) in
     refused_double_block c.refused_double_block-then-not-permitted.ensures (bad_counter, refl, host_uncounted double_length _ _ fits (rw c.counter_of-counter.ensures at bad))
 
 pub register_key-requires : goal.register_key-requires
 register_key-requires c =
-    let counts : Permitted c.counter_of-counter.result = c.permitted.ensures.0 (not-false _ c.if-not-permitted.false-raw) in
+    let counts : Permitted c.counter_of-counter.result = c.permitted.ensures.0 c.if-not-permitted.false in
     let a = c.args in
     record { counter_bound = omega (arith, counts.fits); tail_bound = omega (arith, tail_clear a.serial_number.now, c.cleared_tail.ensures) }
 
 pub returns : goal.returns
 returns c =
-    let counts : Permitted c.counter_of-counter.result = c.permitted.ensures.0 (not-false _ c.if-not-permitted.false-raw) in
+    let counts : Permitted c.counter_of-counter.result = c.permitted.ensures.0 c.if-not-permitted.false in
     let fits = tested_fit double_length _ _ c.derivable-number.ensures c.if-number-ne-DONE.false in
     rw (
       host_counted double_length _ _ fits (rw c.counter_of-counter.ensures at counts),

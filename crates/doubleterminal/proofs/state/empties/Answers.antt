@@ -17,11 +17,11 @@ loop-b-init c = (search rules, λ j h. absurd (omega arith))
 
 pub returns-then-not-is_empty : goal.returns-then-not-is_empty
 returns-then-not-is_empty c =
-    (λ e. absurd (false≢true e), λ h. absurd (false≢true (sym (not-true _ c.if-not-is_empty.true-raw) ∙ c.is_empty.ensures.1 (h c.loop-b.b (omega arith) c.if-t-b-eq0.true))))
+    (λ e. absurd (false≢true e), λ h. absurd (false≢true (sym c.if-not-is_empty.true ∙ c.is_empty.ensures.1 (h c.loop-b.b (omega arith) c.if-t-b-eq0.true))))
 
 pub loop-b-preserved : goal.loop-b-preserved
 loop-b-preserved c =
-    (search rules, below_more _ _ c.loop-b.invariant.1 (λ e. elim c.if-t-b-eq0.branch [ then-t-b-eq0+else-not-is_empty w ↦ w.is_empty.ensures.0 (not-false _ w.if-not-is_empty.false-raw) | else-t-b-eq0 w ↦ absurd (w.if-t-b-eq0.false e) ]))
+    (search rules, below_more _ _ c.loop-b.invariant.1 (λ e. elim c.if-t-b-eq0.branch [ then-t-b-eq0+else-not-is_empty w ↦ w.is_empty.ensures.0 w.if-not-is_empty.false | else-t-b-eq0 w ↦ absurd (w.if-t-b-eq0.false e) ]))
 
 pub returns : goal.returns
 returns c = (λ e b h. c.loop-b.invariant.1 b (omega arith), λ h. refl)

@@ -15,7 +15,7 @@ returns-then-counter_of-ne0 c = (λ e. absurd (false≢true e), λ v. absurd (c.
 pub returns-then-not-in_order : goal.returns-then-not-in_order
 returns-then-not-in_order c =
     let checked = valid_checked double_length (view c.args.t) in
-    (λ e. absurd (false≢true e), λ v. absurd (false≢true (sym (not-true _ c.if-not-in_order.true-raw) ∙ c.in_order.ensures.1 (checked v).order)))
+    (λ e. absurd (false≢true e), λ v. absurd (false≢true (sym c.if-not-in_order.true ∙ c.in_order.ensures.1 (checked v).order)))
 
 pub returns : goal.returns
 returns c =
@@ -26,7 +26,7 @@ returns c =
         serial_size = serial_size;
         clear = sym c.counter_of.ensures ∙ c.if-counter_of-ne0.false;
         size = size;
-        order = c.in_order.ensures.0 (not-false _ c.if-not-in_order.false-raw);
+        order = c.in_order.ensures.0 c.if-not-in_order.false;
         empties = c.empties.ensures.0 e;
       }),
       λ v. c.empties.ensures.1 (valid_checked double_length (view t) v).empties,

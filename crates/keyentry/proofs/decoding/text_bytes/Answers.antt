@@ -22,13 +22,13 @@ unfolding text_bytes
 returns-then-not-all_of_kind c =
     let even : eqb (length c.args.text.now % 2) 0 ≡ true = eq-eqb _ _ c.if-text-ne0.false in
     refused_answer c.refused-then-not-all_of_kind.ensures
-    (character, refl, simp (even, sym c.all_of_kind.ensures ∙ not-true _ c.if-not-all_of_kind.true-raw))
+    (character, refl, simp (even, sym c.all_of_kind.ensures ∙ c.if-not-all_of_kind.true))
 
 pub lend_bytes-requires : goal.lend_bytes-requires
-lend_bytes-requires c = record { text_len = omega arith; text_value = sym c.all_of_kind.ensures ∙ not-false _ c.if-not-all_of_kind.false-raw }
+lend_bytes-requires c = record { text_len = omega arith; text_value = sym c.all_of_kind.ensures ∙ c.if-not-all_of_kind.false }
 
 pub returns : goal.returns
 returns c =
     let even : eqb (length c.args.text.now % 2) 0 ≡ true = eq-eqb _ _ c.if-text-ne0.false in
-    let digits : all hexadecimal c.args.text.now ≡ true = sym c.all_of_kind.ensures ∙ not-false _ c.if-not-all_of_kind.false-raw in
+    let digits : all hexadecimal c.args.text.now ≡ true = sym c.all_of_kind.ensures ∙ c.if-not-all_of_kind.false in
     rw (decoded c.args.text.now even digits) c.lend_bytes.ensures

@@ -10,7 +10,7 @@ returns-then-not-is_of_kind c =
     let l = c.loop-i in
     let a = c.args in
     all_fails (of_kind a.kind) a.s.now l.i l.invariant.1 (omega arith)
-    (sym c.is_of_kind.ensures ∙ not-true _ c.if-not-is_of_kind.true-raw)
+    (sym c.is_of_kind.ensures ∙ c.if-not-is_of_kind.true)
 
 pub loop-i-preserved : goal.loop-i-preserved
 loop-i-preserved c =
@@ -18,7 +18,7 @@ loop-i-preserved c =
     let a = c.args in (
       omega arith,
       all_passes (of_kind a.kind) a.s.now l.i l.invariant.1 (omega arith)
-          (sym c.is_of_kind.ensures ∙ not-false _ c.if-not-is_of_kind.false-raw),
+          (sym c.is_of_kind.ensures ∙ c.if-not-is_of_kind.false),
     )
 
 pub returns : goal.returns

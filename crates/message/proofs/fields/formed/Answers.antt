@@ -9,8 +9,8 @@ returns-in_default c = rw c.in_default.is
 
 pub returns-then-not-sized : goal.returns-then-not-sized
 unfolding formed
-returns-then-not-sized c = rw c.in-Listed.is (simp (sym c.sized.ensures ∙ not-true _ c.if-not-sized.true-raw))
+returns-then-not-sized c = rw c.in-Listed.is (simp (sym c.sized.ensures ∙ c.if-not-sized.true))
 
 pub returns : goal.returns
 unfolding formed
-returns c = rw c.in-Listed.is (simp (sym c.sized.ensures ∙ not-false _ c.if-not-sized.false-raw) c.shaped.ensures)
+returns c = rw c.in-Listed.is (simp (sym c.sized.ensures ∙ c.if-not-sized.false) c.shaped.ensures)

@@ -28,11 +28,11 @@ returns-then-body-eq0 c = rw c.in_default.is (sym (none c.args.body.now c.if-bod
 
 pub returns-then-not-between : goal.returns-then-not-between
 unfolding shaped
-returns-then-not-between c = let s = c.args.body.now in rw (c.in_default.is, some s (omega arith)) (simp (sym c.between.ensures ∙ not-true _ c.if-not-between.true-raw))
+returns-then-not-between c = let s = c.args.body.now in rw (c.in_default.is, some s (omega arith)) (simp (sym c.between.ensures ∙ c.if-not-between.true))
 
 pub returns-in_default : goal.returns-in_default
 unfolding shaped
-returns-in_default c = let s = c.args.body.now in rw (c.in_default.is, some s (omega arith)) (simp (sym c.between.ensures ∙ not-false _ c.if-not-between.false-raw) (c.all_digits.ensures ∙ ap (all digit) (part_rest 1 s)))
+returns-in_default c = let s = c.args.body.now in rw (c.in_default.is, some s (omega arith)) (simp (sym c.between.ensures ∙ c.if-not-between.false) (c.all_digits.ensures ∙ ap (all digit) (part_rest 1 s)))
 
 pub returns : goal.returns
 unfolding shaped

@@ -12,17 +12,17 @@ returns-then-block-ne8 c = refused_answer c.refused.ensures (size, refl, simp (n
 pub returns-then-not-card_sized : goal.returns-then-not-card_sized
 unfolding read_with_card
 returns-then-not-card_sized c =
-    let no = sym c.card_sized.ensures ∙ not-true _ c.if-not-card_sized.true-raw in
+    let no = sym c.card_sized.ensures ∙ c.if-not-card_sized.true in
     refused_answer c.refused-then-not-card_sized.ensures (size, refl, simp (eq-eqb _ _ c.if-block-ne8.false, no))
 
 pub returns-then-not-all_digits : goal.returns-then-not-all_digits
 unfolding read_with_card
 returns-then-not-all_digits c =
-    let no = sym c.all_digits.ensures ∙ not-true _ c.if-not-all_digits.true-raw in
-    refused_answer c.refused-then-not-all_digits.ensures (character, refl, simp (eq-eqb _ _ c.if-block-ne8.false, (sym c.card_sized.ensures ∙ not-false _ c.if-not-card_sized.false-raw), no))
+    let no = sym c.all_digits.ensures ∙ c.if-not-all_digits.true in
+    refused_answer c.refused-then-not-all_digits.ensures (character, refl, simp (eq-eqb _ _ c.if-block-ne8.false, (sym c.card_sized.ensures ∙ c.if-not-card_sized.false), no))
 
 pub returns : goal.returns
 unfolding read_with_card
 returns c =
-    simp (eq-eqb _ _ c.if-block-ne8.false, (sym c.card_sized.ensures ∙ not-false _ c.if-not-card_sized.false-raw), (sym c.all_digits.ensures ∙ not-false _ c.if-not-all_digits.false-raw), ← c.word_of.ensures, ← c.card_part.ensures)
+    simp (eq-eqb _ _ c.if-block-ne8.false, (sym c.card_sized.ensures ∙ c.if-not-card_sized.false), (sym c.all_digits.ensures ∙ c.if-not-all_digits.false), ← c.word_of.ensures, ← c.card_part.ensures)
     c.read_word.ensures

@@ -19,11 +19,11 @@ returns-then-p c =
 pub returns-then-not-permitted : goal.returns-then-not-permitted
 returns-then-not-permitted c = (
   λ e. absurd (false≢true e),
-  λ o. absurd (false≢true (sym (not-true _ c.if-not-permitted.true-raw) ∙ c.permitted.ensures.1 (runs_counted o.counted c.if-p.false))),
+  λ o. absurd (false≢true (sym c.if-not-permitted.true ∙ c.permitted.ensures.1 (runs_counted o.counted c.if-p.false))),
 )
 
 pub returns : goal.returns
 returns c =
-    let ok = c.permitted.ensures.0 (not-false _ c.if-not-permitted.false-raw) in
+    let ok = c.permitted.ensures.0 c.if-not-permitted.false in
     let mask = c.filled_mask.ensures in
     (λ e. record { counted = inl (c.if-p.false, ok); mask = eqb-true _ _ e ∙ mask }, λ o. eq-eqb _ _ (o.mask ∙ sym mask))

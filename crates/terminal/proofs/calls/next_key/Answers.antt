@@ -19,34 +19,34 @@ use Rattle.terminal.proofs.calls.next_key.Goals as goal
 pub returns-then-not-valid : goal.returns-then-not-valid
 returns-then-not-valid c =
     let s = view c.args.t in
-    let bad : ¬ Valid single_length s = λ v. false≢true (sym (not-true _ c.if-not-valid.true-raw) ∙ c.valid.ensures.1 v) in
+    let bad : ¬ Valid single_length s = λ v. false≢true (sym c.if-not-valid.true ∙ c.valid.ensures.1 v) in
     rw c.refused.ensures (refused_next single_length bad_record (next_invalid single_length s _ bad))
 
 pub returns-then-t : goal.returns-then-t
 returns-then-t c =
-    let ok : Valid single_length (view c.args.t) = c.valid.ensures.0 (not-false _ c.if-not-valid.false-raw) in
+    let ok : Valid single_length (view c.args.t) = c.valid.ensures.0 c.if-not-valid.false in
     rw c.refused-then-t.ensures (refused_next single_length exhausted (next_over single_length _ _ ok c.if-t.true))
 
 pub returns-then-out-lt8 : goal.returns-then-out-lt8
 returns-then-out-lt8 c =
-    let ok : Valid single_length (view c.args.t) = c.valid.ensures.0 (not-false _ c.if-not-valid.false-raw) in
+    let ok : Valid single_length (view c.args.t) = c.valid.ensures.0 c.if-not-valid.false in
     rw c.refused-then-out-lt8.ensures
     (refused_next single_length short_buffer
     (next_short single_length _ _ ok c.if-t.false (lt-leb 8 (length c.args.out.now) (omega arith))))
 
 pub ready_key-requires : goal.ready_key-requires
 ready_key-requires c =
-    let ok : Valid single_length (view c.args.t) = c.valid.ensures.0 (not-false _ c.if-not-valid.false-raw) in
+    let ok : Valid single_length (view c.args.t) = c.valid.ensures.0 c.if-not-valid.false in
     runs_counted ok.counted c.if-t.false
 
 pub after_key-requires : goal.after_key-requires
 after_key-requires c =
-    let ok : Valid single_length (view c.args.t) = c.valid.ensures.0 (not-false _ c.if-not-valid.false-raw) in
+    let ok : Valid single_length (view c.args.t) = c.valid.ensures.0 c.if-not-valid.false in
     runs_counted ok.counted c.if-t.false
 
 pub returns : goal.returns
 returns c =
-    let ok : Valid single_length (view c.args.t) = c.valid.ensures.0 (not-false _ c.if-not-valid.false-raw) in
+    let ok : Valid single_length (view c.args.t) = c.valid.ensures.0 c.if-not-valid.false in
     let key = c.given_out.ensures ∙ ap given_out c.ready_key.ensures in
     let lent = lent_all (omega (arith, to_length 256 8 c.given_out.result)) c.lend_word.ensures in
     given_next single_length ok c.if-t.false (omega arith) refl refl c.with_counter.ensures c.after_key.ensures

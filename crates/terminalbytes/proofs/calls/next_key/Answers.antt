@@ -42,7 +42,7 @@ returns-then-next-ne-DONE c =
 pub returns-then-not-enough : goal.returns-then-not-enough
 returns-then-not-enough c =
     let next : Answer c.args.«record».now c.next_key-next.result c.next_key-next.new.out = (c.if-record-ne187.false, c.if-record-gt1.false, rw c.terminal_of.ensures at c.next_key-next.ensures) in
-    let few = sym c.enough.ensures ∙ not-true _ c.if-not-enough.true-raw in
+    let few = sym c.enough.ensures ∙ c.if-not-enough.true in
     rw c.refused-then-not-enough.ensures
     (refused_call single_length short_buffer (short_buffers single_length _ _ next.0 next.1 next.2 c.if-next-ne-DONE.false few) refl)
 
@@ -59,6 +59,6 @@ pub returns : goal.returns
 returns c =
     let zero : c.next_key-next.result.number ≡ 0 = c.if-next-ne-DONE.false in
     let next : Answer c.args.«record».now c.next_key-next.result c.next_key-next.new.out = (c.if-record-ne187.false, c.if-record-gt1.false, rw c.terminal_of.ensures at c.next_key-next.ensures) in
-    let enough = sym c.enough.ensures ∙ not-false _ c.if-not-enough.false-raw in
+    let enough = sym c.enough.ensures ∙ c.if-not-enough.false in
     called_done single_length _ _ next.0 next.1 next.2 zero _ lawful refl enough
     refl refl c.put_record.ensures c.lend.ensures c.lend-2.ensures
