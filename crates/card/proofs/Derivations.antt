@@ -21,7 +21,7 @@ use Rattle.lent.proofs.Bases.{Digits, from_lt}
 use Rattle.lent.proofs.Laws.{cases}
 use Rattle.card.specs.Derivation.{card_digits, rightmost, derivation_word}
 
--- the digits of Y are half_bytes
+-- the digits of Y are half-bytes
 half_bytes : (card : List ℕ) (sequence : ℕ) → all digit card ≡ true → Digits 16 (rightmost 16 (card_digits card sequence))
 unfolding card_digits rightmost to_base
 half_bytes card sequence e =
@@ -69,12 +69,12 @@ module _ (b n : ℕ) (s : List ℕ) where
       (λ h. rw (← short (leb-true _ _ h)) (sym (mod-eq_of_lt lt)))
       (λ h. rw (long (leb-false _ _ h)) (sym (digits_mod _ lt)))
 
--- Y is the word of the digits' half_bytes
+-- Y is the word of the digits' half-bytes
 pub derivation_value : (card : List ℕ) (sequence : ℕ) → all digit card ≡ true → derivation_word card sequence ≡ word_of (card_digits card sequence)
 unfolding derivation_word word_of
 derivation_value card sequence e = rightmost_word 16 16 (card_digits card sequence) (half_bytes card sequence e)
 
--- the low half_bytes of the digits of a sequence
+-- the low half-bytes of the digits of a sequence
 low_two : (n : ℕ) → map low_half (two_digits n) ≡ to_base 10 2 n
 unfolding to_base
 low_two n =
@@ -82,7 +82,7 @@ low_two n =
     let units : low_half (digit_of (n / 1 % 10)) ≡ n / 1 % 10 = omega arith in
     rw (tens, units)
 
--- the card number's characters, then two of the sequence, by their low half_bytes
+-- the card number's characters, then two of the sequence, by their low half-bytes
 pub low_characters : (card : List ℕ) (sequence : ℕ) → all digit card ≡ true → map low_half card ++ map low_half (two_digits sequence) ≡ card_digits card sequence
 unfolding card_digits
 low_characters card sequence e = rw (low_digits card e, low_two sequence)

@@ -15,6 +15,6 @@ card_digits card sequence = map digit_value card ++ to_base 10 2 sequence
 unfoldable pub rightmost : ℕ → List ℕ → List ℕ
 rightmost n s = replicate (n - length s) 0 ++ drop (length s - n) s
 
--- Y, as the word of its sixteen half_bytes
+-- Y, as the word of its sixteen half-bytes
 unfoldable pub derivation_word : List ℕ → ℕ → ℕ
 derivation_word card sequence = from_base 16 16 (rightmost 16 (card_digits card sequence))

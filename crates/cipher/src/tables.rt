@@ -1,4 +1,4 @@
-// The tables of FIPS 46-3, laid out as it prints them.
+// The tables of FIPS 46-3, their entries in its order.
 
 // IP, the initial permutation of a block.
 pub(crate) const INITIAL_PERMUTATION: [u8; 64] = [

@@ -5,7 +5,7 @@ ghost use Rattle.cleaning.specs.Counts.{refused_text, with_counts};
 // A value was written into lent memory: 0, its length, how many bytes of the text before cleaning were dropped and how many spaces went out, or
 // the refusal's number and zeros. It crosses to C as it is.
 #[repr(C)]
-#[derive(Drop)]
+#[derive(Clone, Copy)]
 pub struct TextAnswer {
     pub number: u32,
     pub length: usize,

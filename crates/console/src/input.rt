@@ -20,7 +20,7 @@ pub fn read_some<R: Read, E: Write>(
     buf: &mut [u8],
 ) -> Input
     ensures prefix_len { IsPrefixLen result.count buf.new }
-    ensures count_value { result.failed ≡ true → result.count ≡ 0 }
+    ensures none_if_failed { result.failed ≡ true → result.count ≡ 0 }
 {
     match input.read(buf) {
         Ok(count) => Input {
@@ -45,7 +45,7 @@ pub fn read_full<R: Read, E: Write>(
     buf: &mut [u8],
 ) -> Input
     ensures prefix_len { IsPrefixLen result.count buf.new }
-    ensures count_value { result.failed ≡ true → result.count ≡ 0 }
+    ensures none_if_failed { result.failed ≡ true → result.count ≡ 0 }
 {
     let mut done: usize = 0;
     while done < buf.len() {

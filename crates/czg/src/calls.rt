@@ -258,7 +258,7 @@ fn next_key(place: usize, record: &mut [u8], rooms: Rooms, key: &mut [u8], seria
 
 // Puts the line of a key, its serial number and the record after it.
 fn put_next_key(out: &mut [u8], n: usize, key: &[u8], serial: &[u8], record: &[u8]) -> usize
-    requires in_bounds { 10 ≤ length serial.now }
+    requires serial_fits { 10 ≤ length serial.now }
     requires n_in_bounds { n ≤ length out.old }
     ensures { result ≤ length out.new }
 {
@@ -271,7 +271,7 @@ fn put_next_key(out: &mut [u8], n: usize, key: &[u8], serial: &[u8], record: &[u
 
 // Answers a request for a terminal's next key.
 fn answer_next_key(place: usize, record: &mut [u8], rooms: Rooms, out: &mut [u8], n: usize) -> usize
-    requires first_bound { (rooms.first ≤ 1024) × (rooms.second ≤ 1024) }
+    requires rooms_bound { (rooms.first ≤ 1024) × (rooms.second ≤ 1024) }
     requires n_in_bounds { n ≤ length out.old }
     ensures { result ≤ length out.new }
 {
@@ -295,7 +295,7 @@ pub(crate) fn answer(
     n: usize,
 ) -> usize
     requires within { Within i (length bytes.old) }
-    requires first_bound { (rooms.first ≤ 1024) × (rooms.second ≤ 1024) }
+    requires rooms_bound { (rooms.first ≤ 1024) × (rooms.second ≤ 1024) }
     requires n_in_bounds { n ≤ length out.old }
     ensures { result ≤ length out.new }
 {

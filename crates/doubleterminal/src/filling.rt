@@ -15,7 +15,7 @@ pub(crate) fn filled_from(
     c: u32,
 ) -> [DoubleKey; 21]
     requires n_bound { n ≤ 21 }
-    requires n_bound_2 { c + 2 ^ n ≤ 2 ^ 21 }
+    requires counter_bound { c + 2 ^ n ≤ 2 ^ 21 }
     requires tail_bound { tail + 2 ^ 21 ≤ 2 ^ 64 }
     ensures { result ≡ fill n (stepped double_length key tail c) keys }
 {

@@ -12,7 +12,7 @@ use crate::units::{Bytes, Doubling, digits_of};
 // The byte whose two digits stand in the text at its place.
 fn byte_of(text: &[u8], place: Bytes) -> u8
     requires place_in_bounds { 2 * place.0 + 2 ≤ length text.now }
-    requires text_value { all hexadecimal text.now ≡ true }
+    requires all_hexadecimal { all hexadecimal text.now ≡ true }
     ensures { result ≡ value_of (get_or text.now (2 * place.0) 0) * 16 + value_of (get_or text.now (2 * place.0 + 1) 0) }
 {
     let Doubling::Fits(first) = digits_of(place) else {
@@ -25,7 +25,7 @@ fn byte_of(text: &[u8], place: Bytes) -> u8
 // Writes the bytes of a text to the start of lent memory, which keeps its old bytes after them.
 fn put_bytes(text: &[u8], size: Bytes, out: &mut [u8])
     requires text_len { length text.now ≡ 2 * size.0 }
-    requires text_value { all hexadecimal text.now ≡ true }
+    requires all_hexadecimal { all hexadecimal text.now ≡ true }
     requires size_in_bounds { size.0 ≤ length out.old }
     ensures { out.new ≡ over (bytes_of text.now) out.old }
 {
@@ -40,7 +40,7 @@ fn put_bytes(text: &[u8], size: Bytes, out: &mut [u8])
 // Writes the bytes of a text into lent memory. Refuses with 13 if the memory is shorter.
 fn lend_bytes(text: &[u8], size: Bytes, out: &mut [u8]) -> lent::Answer
     requires text_len { length text.now ≡ 2 * size.0 }
-    requires text_value { all hexadecimal text.now ≡ true }
+    requires all_hexadecimal { all hexadecimal text.now ≡ true }
     ensures { Written (done (bytes_of text.now)) out.old result.number result.length out.new }
 {
     let bytes = size.0;

@@ -7,7 +7,7 @@ use crate::decoding::text_bytes;
 use crate::units::{Bytes, Digits, Doubling, digits_of};
 
 // The answer of key entry: 0 and the key's size, or the refusal's number and 0.
-#[derive(Drop)]
+#[derive(Clone, Copy)]
 pub struct Entered {
     pub number: u32,
     pub size: Bytes,

@@ -1,4 +1,4 @@
--- Laws on half_bytes: those of digits, and the word of half_bytes.
+-- Laws on half-bytes: those of digits, and the word of half-bytes.
 use borrow.Author.Tests.{lt-ltb}
 use mathlib.Core.Path.{◌≡◌, sym, ◌∙◌}
 use mathlib.Core.Bool.{Bool, true}
@@ -25,7 +25,7 @@ use Rattle.lent.proofs.Parts.{from_front}
 abbrev pub half_byte : ℕ → Bool
 half_byte x = ltb x 16
 
--- the values of digits are half_bytes
+-- the values of digits are half-bytes
 pub values_half_bytes : (s : List ℕ) → all digit s ≡ true → all half_byte (map digit_value s) ≡ true
 values_half_bytes =
     all_map digit half_byte digit_value (λ x e. let h = between_true 48 57 x e in lt-ltb (x - 48) 16 (omega arith))
@@ -38,9 +38,9 @@ map_digits f g h = map_all digit f g (λ x e. let k = between_true 48 57 x e in 
 pub low_digits : (s : List ℕ) → all digit s ≡ true → map low_half s ≡ map digit_value s
 low_digits = map_digits low_half digit_value (λ x h k. omega arith)
 
--- ---- the word of half_bytes
+-- ---- the word of half-bytes
 
--- every word is that of its sixteen half_bytes, so that the promise of `with_half_bytes` speaks of every x
+-- every word is that of its sixteen half-bytes, so that the promise of `with_half-bytes` speaks of every x
 pub word_halves : (x : ℕ) → x < 2 ^ 64 → x ≡ word_of (to_base 16 16 x)
 unfolding word_of
 word_halves x h = sym (rw (to_length 16 16 x, from_to 16 (lit< tt) 16 x, mod-eq_of_lt h) (mod-eq_of_lt h))

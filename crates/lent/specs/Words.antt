@@ -1,4 +1,4 @@
--- Numbers and their digits to a base, the highest first: 256 for bytes, 16 for half_bytes.
+-- Numbers and their digits to a base, the highest first: 256 for bytes, 16 for half-bytes.
 use Rattle.std.specs.Prelude.{ℕ, zero, suc, ◌+◌, ◌*◌, ◌/◌, ◌%◌, ◌^◌, Bool, List, [], ◌∷◌, ltb, get_or, drop}
 
 -- a byte is a number below 256

@@ -9,21 +9,21 @@ use crate::words;
 
 // A value was written into lent memory: 0 and its length, or the refusal's number and 0. It crosses to C as it is.
 #[repr(C)]
-#[derive(Drop)]
+#[derive(Clone, Copy)]
 pub struct Answer {
     pub number: u32,
     pub length: usize,
 }
 
 // A value of eight bytes: 0 and the value, or the refusal's number and zeros.
-#[derive(Drop)]
+#[derive(Clone, Copy)]
 pub struct Block {
     pub number: u32,
     pub value: [u8; 8],
 }
 
 // A value of sixteen bytes: 0 and the value, or the refusal's number and zeros.
-#[derive(Drop)]
+#[derive(Clone, Copy)]
 pub struct DoubleBlock {
     pub number: u32,
     pub value: [u8; 16],

@@ -8,7 +8,7 @@ ghost use Rattle.mac.specs.Mac.{mac_of, text_mac, message_mac, message_text_and_
 
 // The MAC of a cleaned text: 0, the MAC, how many bytes of the text before cleaning were dropped and how many spaces went out, or the refusal's
 // number and zeros.
-#[derive(Drop)]
+#[derive(Clone, Copy)]
 pub struct MacAnswer {
     pub number: u32,
     pub value: [u8; 8],
@@ -17,7 +17,7 @@ pub struct MacAnswer {
 }
 
 // A message's text was written into lent memory: 0, its length, its MAC and the two numbers, or the refusal's number and zeros.
-#[derive(Drop)]
+#[derive(Clone, Copy)]
 pub struct TextMac {
     pub number: u32,
     pub length: usize,

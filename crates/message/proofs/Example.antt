@@ -13,7 +13,7 @@ use Rattle.message.specs.Fields.{table, rule_in, rule, shaped, formed}
 use Rattle.message.specs.Records.{little_endian, field_of, known_type, checked_field, record_field, records, message_fields}
 use Rattle.message.specs.Text.{entered, listed_only, joined, joined_text, text_of, message_text}
 
--- fields 0, 3 and 41: 0200, 000000 and `a_1` with five spaces
+-- fields 0, 3 and 41: 0200, 000000 and `a-1` with five spaces
 message : List ℕ
 message =
     0x04 ∷ 0x00 ∷ 0x00 ∷ 0x00 ∷ 0x30 ∷ 0x32 ∷ 0x30 ∷ 0x30
@@ -29,7 +29,7 @@ whole_case : message_text message ≡ done text
 unfolding message text capitalized to_base starts_with capitals kept kept_only trimmed_start trimmed_end trimmed closed_up cleaned table rule_in rule shaped formed little_endian field_of known_type checked_field record_field records message_fields entered listed_only joined text_of message_text
 whole_case = refl
 
--- before it is cleaned, `0200 000000 a_1` with five spaces: the hyphen is dropped, and those five go out
+-- before it is cleaned, `0200 000000 a-1` with five spaces: the hyphen is dropped, and those five go out
 whole_counts : (count_of dropped_from (joined_text message) ≡ 1) × (count_of spaces_out_of (joined_text message) ≡ 5)
 unfolding message capitalized to_base starts_with capitals kept kept_only trimmed_start trimmed_end trimmed closed_up cleaned stays dropped_from spaces_in spaces_out_of table rule_in rule shaped formed little_endian field_of known_type checked_field record_field records message_fields entered listed_only joined joined_text
 whole_counts = (refl, refl)

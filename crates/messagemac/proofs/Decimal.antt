@@ -1,4 +1,4 @@
--- A number in decimal is what `io::decimal` writes.
+-- A number in decimal is what `console::decimal` writes.
 use borrow.Author.Tests.{lt-ltb, le-ltb, leb-true, leb-false}
 use mathlib.Core.Path.{◌≡◌}
 use Prim.Native.Nat.{ℕ, zero, suc, ◌-◌, ◌*◌, ◌/◌, ◌%◌, ◌^◌, ◌≤◌, ◌<◌}

@@ -1,4 +1,4 @@
--- Laws on half_bytes: those of a word, and the word of half_bytes.
+-- Laws on half-bytes: those of a word, and the word of half-bytes.
 use borrow.Author.Tests.{eqb-true}
 use mathlib.Core.Path.{◌≡◌, refl, sym, ap, ◌∙◌}
 use mathlib.Core.Bool.{Bool, true}
@@ -19,7 +19,7 @@ use Rattle.lent.proofs.Laws.{holds_from, holds_below}
 use Rattle.lent.proofs.HalfBytes.{half_byte}
 use Rattle.lent.proofs.Lists.{elements_below}
 
--- ---- the half_bytes of a word
+-- ---- the half-bytes of a word
 
 -- the shift to a place, as a power of two and of sixteen
 same_shift : ℕ → Bool
@@ -41,9 +41,9 @@ text_written text x i b h n eb e =
     let more : i < length s = omega (arith, length-drop 2 (to_base 16 16 x), to_length 16 16 x) in
     rw (add-one i, take-suc-set text i (b + 48) (omega arith), take-suc s i 0 more, map-append, e, eb, get_or-drop 2 (to_base 16 16 x) i 0)
 
--- ---- the word of half_bytes
+-- ---- the word of half-bytes
 
--- Sixteen half_bytes are those of their word.
+-- Sixteen half-bytes are those of their word.
 module _ (s : List ℕ) (n : length s ≡ 16) (h : all half_byte s ≡ true) where
   pub word_lt : from_base 16 16 s < 2 ^ 64
   word_lt = from_lt 16 16 s (elements_below 16 s (lit< tt) h)

@@ -1,4 +1,4 @@
--- Laws on the half_bytes and the block of a permitted PIN.
+-- Laws on the half-bytes and the block of a permitted PIN.
 use borrow.Author.Tests.{lt-ltb}
 use mathlib.Core.Path.{◌≡◌, refl, sym, ap, ◌∙◌}
 use mathlib.Core.Bool.{true}
@@ -52,7 +52,7 @@ module _ (pin : List ℕ) (h : permitted pin ≡ true) where
   unfolding pin_block
   pin_block_lt = word_lt (pin_half_bytes pin) pin_length pin_half_bytes_lem
 
-  -- the block's half_bytes: 0 and the length, the digits, F up to sixteen
+  -- the block's half-bytes: 0 and the length, the digits, F up to sixteen
   pub start_word : length pin ≡ word_of (0 ∷ length pin ∷ [])
   unfolding word_of from_base
   start_word = sym (rw (zero-add (length pin)) (mod-eq_of_lt (omega (arith, pin_short))))
@@ -63,7 +63,7 @@ module _ (pin : List ℕ) (h : permitted pin ≡ true) where
       rw (low_digits pin pin_digits, take_replicate (14 - length pin) 10 15 (omega (arith, pin_short)), low_fill (14 - length pin))
       (word_of_lem (pin_half_bytes pin) pin_length pin_half_bytes_lem)
 
-  -- the block has the PIN's half_bytes, and the PIN stands in them
+  -- the block has the PIN's half-bytes, and the PIN stands in them
   pub pin_candidate : candidate (to_base 16 16 (pin_block pin)) ≡ pin
   unfolding candidate pin_block pin_half_bytes
   pin_candidate =

@@ -13,7 +13,7 @@ rightmost_twelve card = take 12 (drop (length card - 13) card)
 unfoldable pub card_half_bytes : List ℕ → List ℕ
 card_half_bytes card = replicate 4 0 ++ map digit_value (rightmost_twelve card)
 
--- a card number's part of the block: the word of these half_bytes
+-- a card number's part of the block: the word of these half-bytes
 unfoldable pub card_part : List ℕ → ℕ
 card_part card = from_base 16 16 (card_half_bytes card)
 

@@ -16,6 +16,6 @@ permitted pin = both (pin_size pin) (all digit pin)
 unfoldable pub pin_half_bytes : List ℕ → List ℕ
 pin_half_bytes pin = 0 ∷ length pin ∷ map digit_value pin ++ replicate (14 - length pin) 15
 
--- the block of a PIN: the word of these half_bytes
+-- the block of a PIN: the word of these half-bytes
 unfoldable pub pin_block : List ℕ → ℕ
 pin_block pin = from_base 16 16 (pin_half_bytes pin)

@@ -7,7 +7,7 @@ use Rattle.lent.specs.Result.{Result, done, require}
 use Rattle.lent.specs.Words.{to_base}
 use Rattle.pinblock.specs.Pin.{permitted, pin_block}
 
--- what stands after the length, as many half_bytes as it says
+-- what stands after the length, as many half-bytes as it says
 unfoldable pub candidate : List ℕ → List ℕ
 candidate halfBytes = map digit_of (take (get_or halfBytes 1 0) (drop 2 halfBytes))
 

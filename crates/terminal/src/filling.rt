@@ -7,7 +7,7 @@ ghost use Rattle.host.specs.SingleLength.{single_length};
 // The first n registers filled from the key of the counter c, each by one step with its own bit set in the data; the others are kept.
 pub(crate) fn filled_from(keys: [u64; 21], n: usize, key: u64, tail: u64, c: u32) -> [u64; 21]
     requires n_bound { n ≤ 21 }
-    requires n_bound_2 { c + 2 ^ n ≤ 2 ^ 21 }
+    requires counter_bound { c + 2 ^ n ≤ 2 ^ 21 }
     requires tail_bound { tail + 2 ^ 21 ≤ 2 ^ 64 }
     ensures { result ≡ fill n (stepped single_length key tail c) keys }
 {

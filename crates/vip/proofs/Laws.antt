@@ -48,7 +48,7 @@ module _ (digits : List ℕ) (h : permitted digits ≡ true) where
   text_hexadecimal =
       all_weaker capital hexadecimal (λ x e. (both_true (hexadecimal x) (eqb (capitalized x) x) e).0) (block_text digits) text_capital
 
-  -- the bytes of its half_bytes have these half_bytes
+  -- the bytes of its half-bytes have these half-bytes
   text_back : text_of 65 (vip_block digits) ≡ block_text digits
   unfolding vip_block capital
   text_back =

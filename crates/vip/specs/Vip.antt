@@ -16,7 +16,7 @@ vip_size digits = between 11 19 (length digits)
 abbrev pub permitted : List ℕ → Bool
 permitted digits = both (vip_size digits) (all digit digits)
 
--- the half_bytes of a VIP number's block, in hexadecimal: two decimal digits of length, its digits, then F (46 hex) up to 32
+-- the half-bytes of a VIP number's block, in hexadecimal: two decimal digits of length, its digits, then F (46 hex) up to 32
 unfoldable pub block_text : List ℕ → List ℕ
 block_text digits = framed 32 0x46 digits
 
@@ -31,6 +31,6 @@ make digits =
     (require (all digit digits) character
     (done (vip_block digits)))
 
--- the VIP number of a block: what stands in its half_bytes, in capital hexadecimal, if making gives the block
+-- the VIP number of a block: what stands in its half-bytes, in capital hexadecimal, if making gives the block
 unfoldable pub read : List ℕ → Result (List ℕ)
 read block = require (eqb (length block) 16) size (if_made make (framed_text (text_of 65 block)) block)

@@ -5,7 +5,7 @@ use Rattle.lent.specs.Words.{from_base}
 use Rattle.card.proofs.Derivations.{derivation_value, low_characters}
 use Rattle.card.proofs.derivation.derivation_word.Goals as goal
 
--- no half_bytes yet
+-- no half-bytes yet
 none : 0 ≡ word_of []
 unfolding word_of from_base
 none = refl

@@ -18,7 +18,7 @@ bounds-text-at c =
 pub value_of-requires : goal.value_of-requires
 value_of-requires c =
     let first : c.in-Fits.first.0 ≡ 2 * c.args.place.0 = doubled_fits c.args.place c.in-Fits.first (sym c.in-Fits.is ∙ c.digits_of.ensures) in
-    all_at hexadecimal c.args.text.now _ c.requires.text_value (omega (arith, first))
+    all_at hexadecimal c.args.text.now _ c.requires.all_hexadecimal (omega (arith, first))
 
 pub overflow_add-at : goal.overflow_add-at
 overflow_add-at c =
@@ -33,7 +33,7 @@ bounds-text-at-2 c =
 pub value_of-requires-2 : goal.value_of-requires-2
 value_of-requires-2 c =
     let first : c.in-Fits.first.0 ≡ 2 * c.args.place.0 = doubled_fits c.args.place c.in-Fits.first (sym c.in-Fits.is ∙ c.digits_of.ensures) in
-    all_at hexadecimal c.args.text.now _ c.requires.text_value (omega (arith, first))
+    all_at hexadecimal c.args.text.now _ c.requires.all_hexadecimal (omega (arith, first))
 
 pub returns : goal.returns
 returns c =

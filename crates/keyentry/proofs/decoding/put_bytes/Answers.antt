@@ -14,7 +14,7 @@ pub loop-i-init : goal.loop-i-init
 loop-i-init c = (refl, search rules, refl)
 
 pub byte_of-requires : goal.byte_of-requires
-byte_of-requires c = record { place_in_bounds = omega arith; text_value = c.requires.text_value }
+byte_of-requires c = record { place_in_bounds = omega arith; all_hexadecimal = c.requires.all_hexadecimal }
 
 pub bounds-out-i : goal.bounds-out-i
 bounds-out-i c = omega arith

@@ -25,7 +25,7 @@ returns-then-not-all_of_kind c =
     (character, refl, simp (even, sym c.all_of_kind.ensures ∙ c.if-not-all_of_kind.true))
 
 pub lend_bytes-requires : goal.lend_bytes-requires
-lend_bytes-requires c = record { text_len = omega arith; text_value = sym c.all_of_kind.ensures ∙ c.if-not-all_of_kind.false }
+lend_bytes-requires c = record { text_len = omega arith; all_hexadecimal = sym c.all_of_kind.ensures ∙ c.if-not-all_of_kind.false }
 
 pub returns : goal.returns
 returns c =

@@ -12,17 +12,17 @@ loop-b-init c = (search rules, sym (fill_none _ _))
 
 pub overflow_add-c : goal.overflow_add-c
 overflow_add-c c =
-    omega (arith, bit_moved c.loop-b.b c.args.n c.args.c (omega arith) c.requires.n_bound c.requires.n_bound_2)
+    omega (arith, bit_moved c.loop-b.b c.args.n c.args.c (omega arith) c.requires.n_bound c.requires.counter_bound)
 
 pub overflow_add-tail : goal.overflow_add-tail
 overflow_add-tail c =
-    omega (arith, bit_moved c.loop-b.b c.args.n c.args.c (omega arith) c.requires.n_bound c.requires.n_bound_2, c.wide.ensures)
+    omega (arith, bit_moved c.loop-b.b c.args.n c.args.c (omega arith) c.requires.n_bound c.requires.counter_bound, c.wide.ensures)
 
 pub loop-b-preserved : goal.loop-b-preserved
 loop-b-preserved c =
     let a = c.args in
     let l = c.loop-b in
-    let bit = (bit_moved l.b a.n a.c (omega arith) c.requires.n_bound c.requires.n_bound_2).0 in
+    let bit = (bit_moved l.b a.n a.c (omega arith) c.requires.n_bound c.requires.counter_bound).0 in
     let e = c.wide.ensures ∙ ap (λ (x : ℕ). a.c + x) bit in
     let key = c.one_way.ensures ∙ ap (λ (x : ℕ). one_way a.key (a.tail + x)) e in
     (search rules, fill_turn l.b (stepped single_length a.key a.tail a.c) _ _ _ l.invariant.1 key)

@@ -17,7 +17,7 @@ bounds-keys-l c =
 pub filled_from-few-requires : goal.filled_from-few-requires
 filled_from-few-requires c =
     let place : c.lowest_place-l.result < 21 = let ok = c.requires.permitted in omega (arith, c.lowest_place-l.ensures, place_lt c.args.c ok.from_one ok.fits) in
-    record { n_bound = omega (arith, place); n_bound_2 = rw c.lowest_place-l.ensures (place_room c.args.c c.requires.permitted); tail_bound = c.requires.tail_bound }
+    record { n_bound = omega (arith, place); counter_bound = rw c.lowest_place-l.ensures (place_room c.args.c c.requires.permitted); tail_bound = c.requires.tail_bound }
 
 pub offset_bounds-few-l : goal.offset_bounds-few-l
 offset_bounds-few-l c =

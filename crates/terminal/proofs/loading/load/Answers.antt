@@ -13,7 +13,7 @@ returns-then-serial_number-ne10 c = load_sizes single_length _ _ (λ e. c.if-ser
 
 pub filled_from-keys-requires : goal.filled_from-keys-requires
 filled_from-keys-requires c =
-    record { n_bound = lit≤ tt; n_bound_2 = lit≤ tt; tail_bound = omega (arith, tail_clear c.args.serial_number.now, c.cleared_tail.ensures) }
+    record { n_bound = lit≤ tt; counter_bound = lit≤ tt; tail_bound = omega (arith, tail_clear c.args.serial_number.now, c.cleared_tail.ensures) }
 
 pub returns : goal.returns
 unfolding loaded
