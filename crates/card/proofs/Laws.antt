@@ -14,7 +14,7 @@ use Rattle.lent.proofs.Bases.{Digits, to_bytes}
 use Rattle.lent.proofs.Lists.{all_append, elements_below}
 use Rattle.lent.proofs.Results.{same_done, require_done, then_done}
 use Rattle.parity.specs.Parity.{odd_parity, adjusted, without_low_bits}
-use Rattle.parity.proofs.Laws.{odd_parity_lem, low_bits_alone, no_other}
+use Rattle.parity.proofs.Laws.{adjusted_has_parity, low_bits_alone, no_other}
 use Rattle.parity.proofs.LowBits.{same_triple}
 use Rattle.card.specs.DoubleKey.{double_size}
 use Rattle.card.specs.Entries.{derivation_data, unadjusted_card_key, card_key, session_key, arqc, arpc}
@@ -58,7 +58,7 @@ module _ (master card : List ℕ) (sequence : ℕ) where
     card_key_exactly other =
         let k : and_then (unadjusted_card_key master card sequence) (λ key. done (adjusted key)) ≡ done (adjusted key) = rw e in (
           λ f. let g = same_done (sym k ∙ f) in
-              (subst (λ (s : List ℕ). odd_parity s ≡ true) g (odd_parity_lem key), subst (λ (s : List ℕ). without_low_bits s ≡ without_low_bits key) g (low_bits_alone key)),
+              (subst (λ (s : List ℕ). odd_parity s ≡ true) g (adjusted_has_parity key), subst (λ (s : List ℕ). without_low_bits s ≡ without_low_bits key) g (low_bits_alone key)),
           λ p. k ∙ ap done (sym (no_other key other p.0 p.1)),
         )
 

@@ -1,4 +1,5 @@
 -- The steps of the proofs, and the laws that docs/RULES.md cites.
 mod Derivations
+mod DoubleKeys
 mod Paddings
 pub mod Laws

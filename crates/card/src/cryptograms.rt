@@ -1,63 +1,52 @@
 // The cryptograms of a transaction.
-ghost use Rattle.std.specs.Prelude.{◌≡◌, ◌+◌, ◌*◌, ◌/◌, ◌≤◌, length, take};
-ghost use Rattle.lent.specs.Result.{Answered};
-ghost use Rattle.card.specs.Cryptograms.{arqc_word};
+ghost use Rattle.std.specs.Prelude.{◌≡◌, ◌≤◌, length};
+ghost use Rattle.card.specs.Algorithm3.{mac_algorithm3};
 ghost use Rattle.card.specs.Entries;
 ghost use Rattle.card.specs.Padding.{padded};
 
-use crate::keys::triple_encrypt;
+use crate::double_key::DoubleKey;
+use lent::Refusal;
 
-// The data padded, with zeros after that.
-fn padded_bytes(data: &[u8]) -> [u8; 256]
+// The data padded, in a buffer of zeros.
+fn padded<'a>(data: &[u8], buffer: &'a mut [u8; 256]) -> &'a [u8]
     requires { length «data».now ≤ 255 }
-    ensures { take (8 * (length «data».now / 8 + 1)) result ≡ padded «data».now }
+    ensures { result.now ≡ padded «data».now }
 {
-    let mut bytes = [0u8; 256];
-    lent::lend(data, &mut bytes);
-    let n = data.len();
-    bytes[n] = 0x80;
-    bytes
+    buffer.fill(0);
+    buffer[..data.len()].copy_from_slice(data);
+    buffer[data.len()] = 0x80;
+    &buffer[..8 * (data.len() / 8 + 1)]
 }
 
-// The ARQC: algorithm 3 of ISO/IEC 9797-1 over the padded data.
-fn arqc_word(key: &[u8], data: &[u8]) -> u64
+// Algorithm 3 of ISO/IEC 9797-1 over the padded data.
+fn arqc_word(key: DoubleKey, data: &[u8]) -> u64
     requires { length «data».now ≤ 255 }
-    ensures { result ≡ arqc_word key.now «data».now }
+    ensures { result ≡ mac_algorithm3 key.left key.right (padded «data».now) }
 {
-    let left = lent::word_of(key);
-    let right = lent::right_half(key);
-    let bytes = padded_bytes(data);
-    let size = 8 * (data.len() / 8 + 1);
-    let chain = chaining::chained(left, &bytes[..size]);
-    cipher::encrypt(left, cipher::decrypt(right, chain))
+    let mut buffer = [0u8; 256];
+    let chain = chaining::chained(key.left, padded(data, &mut buffer));
+    cipher::encrypt(key.left, cipher::decrypt(key.right, chain))
 }
 
 // The ARQC of card data under a session key. Refuses with 6 if the key does not have 16 bytes or the data 1 to 255.
-pub fn arqc(session_key: &[u8], data: &[u8]) -> lent::Block
-    ensures { Answered 8 (Entries.arqc session_key.now «data».now) result.number result.value }
+pub fn arqc(session_key: &[u8], data: &[u8]) -> Result<[u8; 8], Refusal>
+    ensures { result ≡ Entries.arqc session_key.now «data».now }
 {
-    if session_key.len() != 16 {
-        return lent::refused_block(lent::SIZE);
-    }
+    let key = DoubleKey::try_from(session_key)?;
     if !lent::sized(1, 255, data) {
-        return lent::refused_block(lent::SIZE);
+        return Err(Refusal::Size);
     }
-    lent::block_of(arqc_word(session_key, data))
+    Ok(lent::bytes_of(arqc_word(key, data)))
 }
 
 // The ARPC of an ARQC and a code under a session key. Refuses with 6 if the key does not have 16 bytes, the ARQC 8 or the code 2.
-pub fn arpc(session_key: &[u8], arqc: &[u8], code: &[u8]) -> lent::Block
-    ensures { Answered 8 (Entries.arpc session_key.now arqc.now code.now) result.number result.value }
+pub fn arpc(session_key: &[u8], arqc: &[u8], code: &[u8]) -> Result<[u8; 8], Refusal>
+    ensures { result ≡ Entries.arpc session_key.now arqc.now code.now }
 {
-    if session_key.len() != 16 {
-        return lent::refused_block(lent::SIZE);
-    }
-    if arqc.len() != 8 {
-        return lent::refused_block(lent::SIZE);
-    }
-    if code.len() != 2 {
-        return lent::refused_block(lent::SIZE);
+    let key = DoubleKey::try_from(session_key)?;
+    if arqc.len() != 8 || code.len() != 2 {
+        return Err(Refusal::Size);
     }
     let block = lent::word_of(arqc) ^ lent::word_of(code);
-    lent::block_of(triple_encrypt(session_key, block))
+    Ok(lent::bytes_of(key.encrypt(block)))
 }

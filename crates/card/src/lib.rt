@@ -3,6 +3,7 @@
 
 mod cryptograms;
 mod derivation;
+mod double_key;
 mod keys;
 
 pub use cryptograms::{arpc, arqc};

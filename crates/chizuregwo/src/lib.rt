@@ -1,5 +1,5 @@
-// The C library: each entry takes lent bytes, writes its value into lent bytes, and answers a number and the length written. An entry's comment
-// has its refusals in their order; include/chizuregwo.h says when it refuses with each. chizuregwo_c exports the entries to C.
+// The C library: each entry takes lent bytes, writes its value into lent bytes, and answers the length written or the refusal. An entry's comment
+// has its refusals in their order; include/chizuregwo.h says when it refuses with each. chizuregwo_c exports the entries to C, which gets numbers.
 #![tactic(auto)]
 
 mod answers;

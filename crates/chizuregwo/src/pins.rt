@@ -1,42 +1,50 @@
 // PIN blocks, clear and encrypted.
-ghost use Rattle.lent.specs.Result.{Written};
+ghost use Rattle.lent.specs.Result.{Writes};
 ghost use Rattle.pinblock.specs.Entries;
 
-use crate::answers::lend_block;
+use crate::answers::lend;
 
 // The block of a PIN, 8 bytes. Refuses with 6, 7, 13.
-pub fn czg_pin_make(pin: &[u8], out: &mut [u8]) -> lent::Answer
-    ensures { Written (Entries.make pin.now) out.old result.number result.length out.new }
+pub fn czg_pin_make(pin: &[u8], out: &mut [u8]) -> Result<usize, lent::Refusal>
+    ensures { Writes (Entries.make pin.now) out.old result out.new }
 {
-    lend_block(pinblock::make(pin), out)
+    lend(pinblock::make(pin), out)
 }
 
 // The block of a PIN with a card number, 8 bytes. Refuses with 6, 7, 13.
-pub fn czg_pin_make_with_card(pin: &[u8], card: &[u8], out: &mut [u8]) -> lent::Answer
-    ensures { Written (Entries.make_with_card pin.now card.now) out.old result.number result.length out.new }
+pub fn czg_pin_make_with_card(
+    pin: &[u8],
+    card: &[u8],
+    out: &mut [u8],
+) -> Result<usize, lent::Refusal>
+    ensures { Writes (Entries.make_with_card pin.now card.now) out.old result out.new }
 {
-    lend_block(pinblock::make_with_card(pin, card), out)
+    lend(pinblock::make_with_card(pin, card), out)
 }
 
 // The PIN of a block, its digits. Refuses with 6, 8, 13.
-pub fn czg_pin_read(block: &[u8], out: &mut [u8]) -> lent::Answer
-    ensures { Written (Entries.read block.now) out.old result.number result.length out.new }
+pub fn czg_pin_read(block: &[u8], out: &mut [u8]) -> Result<usize, lent::Refusal>
+    ensures { Writes (Entries.read block.now) out.old result out.new }
 {
     pinblock::read(block, out)
 }
 
 // The PIN of a block with a card number, its digits. Refuses with 6, 7, 8, 13.
-pub fn czg_pin_read_with_card(block: &[u8], card: &[u8], out: &mut [u8]) -> lent::Answer
-    ensures { Written (Entries.read_with_card block.now card.now) out.old result.number result.length out.new }
+pub fn czg_pin_read_with_card(
+    block: &[u8],
+    card: &[u8],
+    out: &mut [u8],
+) -> Result<usize, lent::Refusal>
+    ensures { Writes (Entries.read_with_card block.now card.now) out.old result out.new }
 {
     pinblock::read_with_card(block, card, out)
 }
 
 // The encrypted block of a PIN, 8 bytes. Refuses with 6, 7, 13.
-pub fn czg_pin_encrypt(key: &[u8], pin: &[u8], out: &mut [u8]) -> lent::Answer
-    ensures { Written (Entries.encrypt key.now pin.now) out.old result.number result.length out.new }
+pub fn czg_pin_encrypt(key: &[u8], pin: &[u8], out: &mut [u8]) -> Result<usize, lent::Refusal>
+    ensures { Writes (Entries.encrypt key.now pin.now) out.old result out.new }
 {
-    lend_block(pinblock::encrypt(key, pin), out)
+    lend(pinblock::encrypt(key, pin), out)
 }
 
 // The encrypted block of a PIN with a card number, 8 bytes. Refuses with 6, 7, 13.
@@ -45,15 +53,15 @@ pub fn czg_pin_encrypt_with_card(
     pin: &[u8],
     card: &[u8],
     out: &mut [u8],
-) -> lent::Answer
-    ensures { Written (Entries.encrypt_with_card key.now pin.now card.now) out.old result.number result.length out.new }
+) -> Result<usize, lent::Refusal>
+    ensures { Writes (Entries.encrypt_with_card key.now pin.now card.now) out.old result out.new }
 {
-    lend_block(pinblock::encrypt_with_card(key, pin, card), out)
+    lend(pinblock::encrypt_with_card(key, pin, card), out)
 }
 
 // The PIN of an encrypted block, its digits. Refuses with 6, 8, 13.
-pub fn czg_pin_decrypt(key: &[u8], block: &[u8], out: &mut [u8]) -> lent::Answer
-    ensures { Written (Entries.decrypt key.now block.now) out.old result.number result.length out.new }
+pub fn czg_pin_decrypt(key: &[u8], block: &[u8], out: &mut [u8]) -> Result<usize, lent::Refusal>
+    ensures { Writes (Entries.decrypt key.now block.now) out.old result out.new }
 {
     pinblock::decrypt(key, block, out)
 }
@@ -64,8 +72,8 @@ pub fn czg_pin_decrypt_with_card(
     block: &[u8],
     card: &[u8],
     out: &mut [u8],
-) -> lent::Answer
-    ensures { Written (Entries.decrypt_with_card key.now block.now card.now) out.old result.number result.length out.new }
+) -> Result<usize, lent::Refusal>
+    ensures { Writes (Entries.decrypt_with_card key.now block.now card.now) out.old result out.new }
 {
     pinblock::decrypt_with_card(key, block, card, out)
 }

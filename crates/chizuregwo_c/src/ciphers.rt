@@ -7,7 +7,7 @@ ghost use Rattle.keyed.specs.Keyed.{encrypt_block, decrypt_block};
 pub extern "C" fn czg_encrypt(key: &[u8], block: &[u8], out: &mut [u8]) -> lent::Answer
     ensures { Written (encrypt_block key.now block.now) out.old result.number result.length out.new }
 {
-    chizuregwo::ciphers::czg_encrypt(key, block, out)
+    lent::Answer::from(chizuregwo::ciphers::czg_encrypt(key, block, out))
 }
 
 // Decrypts a block, 8 bytes. Refuses with 6, 13.
@@ -15,5 +15,5 @@ pub extern "C" fn czg_encrypt(key: &[u8], block: &[u8], out: &mut [u8]) -> lent:
 pub extern "C" fn czg_decrypt(key: &[u8], block: &[u8], out: &mut [u8]) -> lent::Answer
     ensures { Written (decrypt_block key.now block.now) out.old result.number result.length out.new }
 {
-    chizuregwo::ciphers::czg_decrypt(key, block, out)
+    lent::Answer::from(chizuregwo::ciphers::czg_decrypt(key, block, out))
 }

@@ -13,7 +13,7 @@ pub extern "C" fn czg_initial_key(
 ) -> lent::Answer
     ensures { Written (initial_key single_length derivation_key.now serial_number.now) out.old result.number result.length out.new }
 {
-    chizuregwo::hosts::czg_initial_key(derivation_key, serial_number, out)
+    lent::Answer::from(chizuregwo::hosts::czg_initial_key(derivation_key, serial_number, out))
 }
 
 // The host's key for the counter in the serial number, 8 bytes. Refuses with 6, 9, 10, 13.
@@ -25,7 +25,7 @@ pub extern "C" fn czg_host_key(
 ) -> lent::Answer
     ensures { Written (host_key single_length derivation_key.now serial_number.now) out.old result.number result.length out.new }
 {
-    chizuregwo::hosts::czg_host_key(derivation_key, serial_number, out)
+    lent::Answer::from(chizuregwo::hosts::czg_host_key(derivation_key, serial_number, out))
 }
 
 // The initial key of the double-length terminal with that serial number, 16 bytes. Refuses with 6, 9, 13.
@@ -37,7 +37,11 @@ pub extern "C" fn czg_double_initial_key(
 ) -> lent::Answer
     ensures { Written (initial_key double_length derivation_key.now serial_number.now) out.old result.number result.length out.new }
 {
-    chizuregwo::hosts::czg_double_initial_key(derivation_key, serial_number, out)
+    lent::Answer::from(chizuregwo::hosts::czg_double_initial_key(
+        derivation_key,
+        serial_number,
+        out,
+    ))
 }
 
 // The host's double-length key for the counter in the serial number, 16 bytes. Refuses with 6, 9, 10, 13.
@@ -49,5 +53,5 @@ pub extern "C" fn czg_double_host_key(
 ) -> lent::Answer
     ensures { Written (host_key double_length derivation_key.now serial_number.now) out.old result.number result.length out.new }
 {
-    chizuregwo::hosts::czg_double_host_key(derivation_key, serial_number, out)
+    lent::Answer::from(chizuregwo::hosts::czg_double_host_key(derivation_key, serial_number, out))
 }

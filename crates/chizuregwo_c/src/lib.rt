@@ -1,4 +1,5 @@
-// The exports of the C library (include/chizuregwo.h): each is the entry of the same name in chizuregwo, with its promise.
+// The exports of the C library (include/chizuregwo.h): each is the entry of the same name in chizuregwo, with its promise in C's numbers. They are
+// alike, since C asks for one function for each.
 #![tactic(auto)]
 
 pub mod cards;

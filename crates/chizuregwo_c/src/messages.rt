@@ -12,7 +12,7 @@ ghost use Rattle.mac.specs.Mac.{text_mac, message_mac};
 pub extern "C" fn czg_key_entry(text: &[u8], wanted: usize, out: &mut [u8]) -> lent::Answer
     ensures { Written (key_entry text.now (record { 0 = wanted })) out.old result.number result.length out.new }
 {
-    chizuregwo::messages::czg_key_entry(text, wanted, out)
+    lent::Answer::from(chizuregwo::messages::czg_key_entry(text, wanted, out))
 }
 
 // Cleans a text. Refuses with 6, 13.
@@ -20,7 +20,7 @@ pub extern "C" fn czg_key_entry(text: &[u8], wanted: usize, out: &mut [u8]) -> l
 pub extern "C" fn czg_clean(text: &[u8], out: &mut [u8]) -> cleaning::TextAnswer
     ensures { WrittenText (clean_text text.now) (done text.now) out.old result out.new }
 {
-    chizuregwo::messages::czg_clean(text, out)
+    cleaning::TextAnswer::from(chizuregwo::messages::czg_clean(text, out))
 }
 
 // Writes a message's MAC text. Refuses with 6, then record by record with 1, 2, 4, 3, then with 13.
@@ -28,7 +28,7 @@ pub extern "C" fn czg_clean(text: &[u8], out: &mut [u8]) -> cleaning::TextAnswer
 pub extern "C" fn czg_message_text(message: &[u8], out: &mut [u8]) -> cleaning::TextAnswer
     ensures { WrittenText (message_text message.now) (joined_text message.now) out.old result out.new }
 {
-    chizuregwo::messages::czg_message_text(message, out)
+    cleaning::TextAnswer::from(chizuregwo::messages::czg_message_text(message, out))
 }
 
 // The MAC of free text, 8 bytes. Refuses with 6, 5, 13.
@@ -36,7 +36,7 @@ pub extern "C" fn czg_message_text(message: &[u8], out: &mut [u8]) -> cleaning::
 pub extern "C" fn czg_text_mac(key: &[u8], text: &[u8], out: &mut [u8]) -> cleaning::TextAnswer
     ensures { WrittenText (text_mac key.now text.now) (done text.now) out.old result out.new }
 {
-    chizuregwo::messages::czg_text_mac(key, text, out)
+    cleaning::TextAnswer::from(chizuregwo::messages::czg_text_mac(key, text, out))
 }
 
 // The MAC of a message, 8 bytes. Refuses with 6, then record by record with 1, 2, 4, 3, then with 13.
@@ -48,7 +48,7 @@ pub extern "C" fn czg_message_mac(
 ) -> cleaning::TextAnswer
     ensures { WrittenText (message_mac key.now message.now) (joined_text message.now) out.old result out.new }
 {
-    chizuregwo::messages::czg_message_mac(key, message, out)
+    cleaning::TextAnswer::from(chizuregwo::messages::czg_message_mac(key, message, out))
 }
 
 // Writes what a number means, as text. Refuses with 6, 13.
@@ -56,5 +56,5 @@ pub extern "C" fn czg_message_mac(
 pub extern "C" fn czg_meaning(number: u32, out: &mut [u8]) -> lent::Answer
     ensures { Written (Meanings.meaning number) out.old result.number result.length out.new }
 {
-    chizuregwo::messages::czg_meaning(number, out)
+    lent::Answer::from(chizuregwo::messages::czg_meaning(number, out))
 }

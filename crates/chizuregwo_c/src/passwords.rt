@@ -7,7 +7,7 @@ ghost use Rattle.password.specs.Password;
 pub extern "C" fn czg_password_make(password: &[u8], out: &mut [u8]) -> lent::Answer
     ensures { Written (Password.make password.now) out.old result.number result.length out.new }
 {
-    chizuregwo::passwords::czg_password_make(password, out)
+    lent::Answer::from(chizuregwo::passwords::czg_password_make(password, out))
 }
 
 // The password of a block, its characters. Refuses with 6, 8, 13.
@@ -15,5 +15,5 @@ pub extern "C" fn czg_password_make(password: &[u8], out: &mut [u8]) -> lent::An
 pub extern "C" fn czg_password_read(block: &[u8], out: &mut [u8]) -> lent::Answer
     ensures { Written (Password.read block.now) out.old result.number result.length out.new }
 {
-    chizuregwo::passwords::czg_password_read(block, out)
+    lent::Answer::from(chizuregwo::passwords::czg_password_read(block, out))
 }

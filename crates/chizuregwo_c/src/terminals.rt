@@ -13,7 +13,7 @@ pub extern "C" fn czg_terminal_load(
 ) -> lent::Answer
     ensures { Written (loaded_bytes single_length initial_key.now serial_number.now) out.old result.number result.length out.new }
 {
-    chizuregwo::terminals::czg_terminal_load(initial_key, serial_number, out)
+    lent::Answer::from(chizuregwo::terminals::czg_terminal_load(initial_key, serial_number, out))
 }
 
 // Gives out the terminal's next key, 8 bytes, with the serial number that has its counter, and writes the record after it. Refuses with
@@ -26,7 +26,7 @@ pub extern "C" fn czg_terminal_next_key(
 ) -> lent::Answer
     ensures { Next single_length «record».old (record { key_before = key.old; serial_before = serial_number.old; number = result.number; length = result.length; record_after = «record».new; key_after = key.new; serial_after = serial_number.new }) }
 {
-    chizuregwo::terminals::czg_terminal_next_key(record, key, serial_number)
+    lent::Answer::from(chizuregwo::terminals::czg_terminal_next_key(record, key, serial_number))
 }
 
 // Loads a terminal of double length, and writes its record of 355 bytes. Refuses with 6, 13.
@@ -38,7 +38,11 @@ pub extern "C" fn czg_double_terminal_load(
 ) -> lent::Answer
     ensures { Written (loaded_bytes double_length initial_key.now serial_number.now) out.old result.number result.length out.new }
 {
-    chizuregwo::terminals::czg_double_terminal_load(initial_key, serial_number, out)
+    lent::Answer::from(chizuregwo::terminals::czg_double_terminal_load(
+        initial_key,
+        serial_number,
+        out,
+    ))
 }
 
 // Gives out the terminal's next key, 16 bytes, with the serial number that has its counter, and writes the record after it. Refuses with
@@ -51,5 +55,9 @@ pub extern "C" fn czg_double_terminal_next_key(
 ) -> lent::Answer
     ensures { Next double_length «record».old (record { key_before = key.old; serial_before = serial_number.old; number = result.number; length = result.length; record_after = «record».new; key_after = key.new; serial_after = serial_number.new }) }
 {
-    chizuregwo::terminals::czg_double_terminal_next_key(record, key, serial_number)
+    lent::Answer::from(chizuregwo::terminals::czg_double_terminal_next_key(
+        record,
+        key,
+        serial_number,
+    ))
 }

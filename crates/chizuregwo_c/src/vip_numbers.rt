@@ -7,7 +7,7 @@ ghost use Rattle.vip.specs.Vip;
 pub extern "C" fn czg_vip_make(digits: &[u8], out: &mut [u8]) -> lent::Answer
     ensures { Written (Vip.make digits.now) out.old result.number result.length out.new }
 {
-    chizuregwo::vip_numbers::czg_vip_make(digits, out)
+    lent::Answer::from(chizuregwo::vip_numbers::czg_vip_make(digits, out))
 }
 
 // The VIP number of a block, its digits. Refuses with 6, 8, 13.
@@ -15,5 +15,5 @@ pub extern "C" fn czg_vip_make(digits: &[u8], out: &mut [u8]) -> lent::Answer
 pub extern "C" fn czg_vip_read(block: &[u8], out: &mut [u8]) -> lent::Answer
     ensures { Written (Vip.read block.now) out.old result.number result.length out.new }
 {
-    chizuregwo::vip_numbers::czg_vip_read(block, out)
+    lent::Answer::from(chizuregwo::vip_numbers::czg_vip_read(block, out))
 }

@@ -11,10 +11,10 @@ use lib.Bits.{bit_and, bit_xor, and_mask, and_zero_r, and_shr, and_mod, xor_bloc
 use lib.Dec.{when, eqb, eqb→eq, lit<}
 use lib.ListN.{length}
 use lib.Pow.{pow_pos, shr_lt, split}
+use Rattle.std.specs.Int.Bits.{xor_assoc}
 use Rattle.cipher.specs.Bits.{bit, permuted}
 use Rattle.cipher.proofs.Permutation.{permuted_cons, permuted_lt}
 use Rattle.cipher.proofs.Range.{passed}
-use Rattle.cipher.proofs.Xor.{xor_assoc, same}
 
 -- f of an exclusive-or is the exclusive-or of what f gives
 pub record Linear (f : ℕ → ℕ) : Type 0 where
@@ -34,14 +34,18 @@ low k = record { of = λ a b. xor_mod a b k }
 pub shl : (k : ℕ) → Linear (λ x. x * 2 ^ k)
 shl k = record { of = λ a b. simp add-zero at (sym (xor_block k a b 0 0 (pow_pos k) (pow_pos k))) }
 
+-- numbers with the same half and the same last bit are the same
+same : (x y : ℕ) → x / 2 ≡ y / 2 → x % 2 ≡ y % 2 → x ≡ y
+same x y h o = omega arith
+
 -- a mask takes a bit or leaves it
 mask_bit : (z a b : ℕ) → z < 2 → bit_and (bit_xor a b) z ≡ bit_xor (bit_and a z) (bit_and b z)
 mask_bit zero a b h = rw (and_zero_r a, and_zero_r b, and_zero_r (bit_xor a b))
 mask_bit (suc zero) a b h = rw (and_mask a 1, and_mask b 1, and_mask (bit_xor a b) 1) (xor_mod a b 1)
 mask_bit (suc (suc z)) a b h = omega arith
 
-mask_of_lem : (m a b : ℕ) → bit_and (bit_xor a b) m ≡ bit_xor (bit_and a m) (bit_and b m)
-mask_of_lem =
+mask_keeps : (m a b : ℕ) → bit_and (bit_xor a b) m ≡ bit_xor (bit_and a m) (bit_and b m)
+mask_keeps =
     bin_ind (λ (m : ℕ). (a b : ℕ) → bit_and (bit_xor a b) m ≡ bit_xor (bit_and a m) (bit_and b m))
     (λ a b. rw (and_zero_r a, and_zero_r b, and_zero_r (bit_xor a b)))
     (λ m ih a b. same _ _
@@ -50,7 +54,7 @@ mask_of_lem =
     (mask_bit (m % 2) (a % 2) (b % 2) (mod-lt m (lit< tt)))))
 
 pub mask : (m : ℕ) → Linear (λ x. bit_and x m)
-mask m = record { of = mask_of_lem m }
+mask m = record { of = mask_keeps m }
 
 -- (a ⊕ b) ⊕ (c ⊕ d) is (a ⊕ c) ⊕ (b ⊕ d)
 across : (a b c d : ℕ) → bit_xor (bit_xor a b) (bit_xor c d) ≡ bit_xor (bit_xor a c) (bit_xor b d)

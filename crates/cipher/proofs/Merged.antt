@@ -9,6 +9,7 @@ use lib.Bits.{bit_xor, xor_shifted, xor_zero_l, xor_zero_r}
 use lib.Dec.{when, eqb, eqb→eq, lit<}
 use lib.ListN.{length, get_or}
 use lib.Pow.{pow-add}
+use Rattle.std.specs.Int.Bits.{xor_assoc}
 use Rattle.cipher.specs.Bits.{number_in, permuted}
 use Rattle.cipher.specs.Private.{in_range, SBox, LeadsTo}
 use Rattle.cipher.specs.Rounds.{row, column, s_box, substituted, round_function, rounds, rounded}
@@ -17,7 +18,6 @@ use Rattle.cipher.proofs.Feistel.{half_lt}
 use Rattle.cipher.proofs.Linear.{Linear, after, selection, at_zero}
 use Rattle.cipher.proofs.Range.{entry_range, passed}
 use Rattle.cipher.proofs.Tabled.{Tabled, entry, remaining}
-use Rattle.cipher.proofs.Xor.{xor_assoc}
 use Rattle.merged.specs.RoundWords.{box1, box2, box3, box4, box5, box6, box7, box8}
 use Rattle.merged.specs.Words as Words
 
@@ -32,31 +32,31 @@ spread_keeps = after (selection 32 expansion) (selection 32 round_permutation)
 -- ---- the S-boxes give four bits each
 
 -- each is an S-box
-unfoldable Boxes : List (List ℕ) → Type 0
+unfoldable pub Boxes : List (List ℕ) → Type 0
 Boxes [] = Unit {0}
 Boxes (box ∷ boxes) = SBox box × Boxes boxes
 
-four_bits : (box : List ℕ) → SBox box → (six : ℕ) → six < 64 → s_box box six < 16
+pub four_bits : (box : List ℕ) → SBox box → (six : ℕ) → six < 64 → s_box box six < 16
 unfolding s_box row column
 four_bits box s six h =
     let r = entry_range 0 15 box s.entries ((six / 32 * 2 + six % 2) * 16 + six / 2 % 16) (omega (arith, s.size)) in
     omega arith
 
 -- what the boxes give for six bits of x each
-unfoldable fours : List (List ℕ) → ℕ → List ℕ
+unfoldable pub fours : List (List ℕ) → ℕ → List ℕ
 fours [] x = []
 fours (box ∷ boxes) x = s_box box (x / 64 ^ length boxes % 64) ∷ fours boxes x
 
-length_fours : (boxes : List (List ℕ)) (x : ℕ) → length (fours boxes x) ≡ length boxes
+pub length_fours : (boxes : List (List ℕ)) (x : ℕ) → length (fours boxes x) ≡ length boxes
 unfolding fours
 length_fours [] x = refl
 length_fours (box ∷ boxes) x = ap suc (length_fours boxes x)
 
-sixteen : (n : ℕ) → 16 ^ n ≡ 2 ^ (n * 4)
+pub sixteen : (n : ℕ) → 16 ^ n ≡ 2 ^ (n * 4)
 sixteen zero = refl
 sixteen (suc n) = rw (pow-suc 16 n, sixteen n, suc-mul n 4, pow-add 2 (n * 4) 4)
 
-fours_lt : (boxes : List (List ℕ)) → Boxes boxes → (x : ℕ) → number_in 16 (fours boxes x) < 16 ^ length boxes
+pub fours_lt : (boxes : List (List ℕ)) → Boxes boxes → (x : ℕ) → number_in 16 (fours boxes x) < 16 ^ length boxes
 unfolding Boxes fours
 fours_lt [] b x = lit< tt
 fours_lt (box ∷ boxes) b x =
@@ -107,13 +107,13 @@ read (box ∷ boxes) (table ∷ tables) b t x y =
 -- ---- all of them
 
 -- the S-boxes, in order
-abbrev s_boxes : List (List ℕ)
+abbrev pub s_boxes : List (List ℕ)
 s_boxes = s1 ∷ s2 ∷ s3 ∷ s4 ∷ s5 ∷ s6 ∷ s7 ∷ s8 ∷ []
 
 box : {table : List ℕ} → in_range 0 15 table → length table ≡ 64 → SBox table
 box t s = record { entries = t; size = s }
 
-all_boxes : Boxes s_boxes
+pub all_boxes : Boxes s_boxes
 unfolding Boxes
 all_boxes = (box tt refl, (box tt refl, (box tt refl, (box tt refl, (box tt refl, (box tt refl, (box tt refl, (box tt refl, tt))))))))
 

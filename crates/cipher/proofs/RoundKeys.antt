@@ -15,7 +15,7 @@ use Rattle.cipher.specs.Tables.{left_shifts, permuted_choice1, permuted_choice2}
 use Rattle.cipher.proofs.Linear.{Linear, itself, shr, low, shl, mask, sum, after, selection, agreeing, agree, remaining}
 use Rattle.cipher.proofs.Permutation.{permuted_lt}
 use Rattle.cipher.proofs.Range.{first, passed}
-use Rattle.cipher.proofs.Windows.{four, four_keeps, four_sum, seven_lt, seven_of, seven_keeps, seven_of_lem, chosen, window_chosen}
+use Rattle.cipher.proofs.Windows.{four, four_keeps, four_sum, seven_lt, seven_of, seven_keeps, seven_of_half, chosen, window_chosen}
 
 -- ---- a round key from four windows
 
@@ -72,14 +72,14 @@ assembled_keeps n = four_keeps (seven_keeps (n % 28)) (seven_keeps ((n + 7) % 28
 unfoldable key_at : ℕ → ℕ → ℕ
 key_at halves n = permuted 56 permuted_choice2 (assembled n (halves / 2 ^ 28) * 2 ^ 28 + assembled n (halves % 2 ^ 28))
 
-from_windows_lem : (halves : ℕ) (words : List ℕ) → halves < 2 ^ 56 → Windows halves words → (n : ℕ) → n ≤ 28 → from_windows words n ≡ key_at halves n
+from_windows_key : (halves : ℕ) (words : List ℕ) → halves < 2 ^ 56 → Windows halves words → (n : ℕ) → n ≤ 28 → from_windows words n ≡ key_at halves n
 unfolding from_windows key_at assembled
-from_windows_lem halves words h w n hn =
+from_windows_key halves words h w n hn =
     let c = halves / 2 ^ 28 in
     let d = halves % 2 ^ 28 in
     let word : (m : ℕ) → m < 56 → get_or words m 0 ≡ chosen (seven c (m % 28)) (seven d (m % 28)) = λ m hm. w.at m hm ∙ window_chosen halves (m % 28) in
-    let sc : (m : ℕ) → seven_of (m % 28) c ≡ seven c (m % 28) = λ m. seven_of_lem (m % 28) c (omega arith) in
-    let sd : (m : ℕ) → seven_of (m % 28) d ≡ seven d (m % 28) = λ m. seven_of_lem (m % 28) d (omega arith) in
+    let sc : (m : ℕ) → seven_of (m % 28) c ≡ seven c (m % 28) = λ m. seven_of_half (m % 28) c (omega arith) in
+    let sd : (m : ℕ) → seven_of (m % 28) d ≡ seven d (m % 28) = λ m. seven_of_half (m % 28) d (omega arith) in
     rw (
       word n (omega arith),
       word (n + 7) (omega arith),
@@ -168,6 +168,6 @@ unfolding round_keys
 keys_from_windows key words w =
     let x = permuted 64 permuted_choice1 key in
     let h : x < 2 ^ 56 = permuted_lt 64 key permuted_choice1 in
-    same_map (from_windows words) (key_at x) places tt (from_windows_lem x words h w)
+    same_map (from_windows words) (key_at x) places tt (from_windows_key x words h w)
     ∙ ap (map (key_at x)) (sym all_totals)
     ∙ sym (keys_assembled (λ y. y) itself (λ y hy. hy) 0 left_shifts all_assembled x h)

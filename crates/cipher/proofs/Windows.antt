@@ -52,9 +52,9 @@ pub seven_keeps : (p : ℕ) → Linear (seven_of p)
 unfolding seven_of
 seven_keeps p = after (low 7) (after (shr (49 - p)) (sum (shl 28) itself))
 
-pub seven_of_lem : (p half : ℕ) → half < 2 ^ 28 → seven_of p half ≡ seven half p
+pub seven_of_half : (p half : ℕ) → half < 2 ^ 28 → seven_of p half ≡ seven half p
 unfolding seven seven_of
-seven_of_lem p half h =
+seven_of_half p half h =
     let e : half * 2 ^ 28 + half ≡ half * 0x1000_0001 = omega arith in
     ap (λ (x : ℕ). x / 2 ^ (49 - p) % 2 ^ 7) (xor_shifted half 28 half h ∙ e)
 
@@ -87,9 +87,9 @@ moved_seven half p h =
 unfoldable pub chosen : ℕ → ℕ → ℕ
 chosen s t = permuted 56 permuted_choice2 (bit_xor (four s s s s * 2 ^ 28) (four t t t t))
 
-four_times_lem : (s : ℕ) → s < 128 → four s s s s ≡ four_times s
+four_same : (s : ℕ) → s < 128 → four s s s s ≡ four_times s
 unfolding four_times
-four_times_lem s h = four_sum s s s s h h h ∙ omega arith
+four_same s h = four_sum s s s s h h h ∙ omega arith
 
 pub window_chosen : (halves p : ℕ) → window halves p ≡ chosen (seven (halves / 2 ^ 28) p) (seven (halves % 2 ^ 28) p)
 unfolding window chosen four_times
@@ -98,7 +98,7 @@ window_chosen halves p =
     let t = seven (halves % 2 ^ 28) p in
     let hs = seven_lt (halves / 2 ^ 28) p in
     let ht = seven_lt (halves % 2 ^ 28) p in
-    rw (four_times_lem s hs, four_times_lem t ht, xor_shifted (four_times s) 28 (four_times t) (omega arith))
+    rw (four_same s hs, four_same t ht, xor_shifted (four_times s) 28 (four_times t) (omega arith))
 
 -- ---- the words of the two tables
 

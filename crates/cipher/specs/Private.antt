@@ -1,5 +1,5 @@
 -- Only the contracts of private functions cite what stands here: the ranges of tables, and what the quick code keeps.
-use Rattle.std.specs.Prelude.{◌≡◌, List, [], ◌∷◌, ℕ, ◌+◌, ◌-◌, ◌*◌, ◌/◌, ◌%◌, ◌^◌, ◌<◌, ◌≤◌, leb, length, get_or}
+use Rattle.std.specs.Prelude.{◌≡◌, Bool, true, List, [], ◌∷◌, ℕ, ◌+◌, ◌-◌, ◌*◌, ◌/◌, ◌%◌, ◌^◌, ◌<◌, ◌≤◌, leb, length, get_or}
 use Rattle.std.specs.Int.Bits.{bit_and, bit_xor}
 use Rattle.std.proofs.Math.Dec.{when}
 use Rattle.cipher.specs.Bits.{permuted}
@@ -21,6 +21,11 @@ pub record Selection (width : ℕ) (table : List ℕ) : Type 0 where
 pub record SBox (table : List ℕ) : Type 0 where
   pub entries : in_range 0 15 table
   pub size : length table ≡ 64
+
+-- a function, by what it asks and gives, gives true for each number below n
+pub record Passes (n : ℕ) (pre : ℕ → Type 0) (post : ℕ → Bool → Type 0) : Type 0 where
+  pub can : (k : ℕ) → k < n → pre k
+  pub agrees : (k : ℕ) → k < n → (r : Bool) → post k r → r ≡ true
 
 -- in a word of 64 bits, each bit under the mask has changed places with the one n places to its left
 unfoldable pub exchanged : ℕ → ℕ → ℕ → ℕ

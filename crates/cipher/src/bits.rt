@@ -8,7 +8,7 @@ fn bit(width: u64, x: u64, i: u8) -> u64
     requires { (1 ≤ i) × (i ≤ width) × (width ≤ 64) }
     ensures { (result ≡ Bits.bit width x i) × (result < 2) }
 {
-    (x >> (width - i as u64)) % 2
+    (x >> (width - u64::from(i))) % 2
 }
 
 // The bits of x that the table names, in the table's order.
@@ -17,10 +17,8 @@ pub(crate) fn permute(width: u64, table: &[u8], x: u64) -> u64
     ensures { result ≡ Bits.permuted width table.now x }
 {
     let mut r: u64 = 0;
-    let mut k: usize = 0;
-    while k < table.len() {
-        r = r * 2 + bit(width, x, table[k]);
-        k += 1;
+    for i in table {
+        r = r * 2 + bit(width, x, *i);
     }
     r
 }

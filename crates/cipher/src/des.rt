@@ -1,13 +1,11 @@
-// DES under a schedule and under a key.
+// The initial permutation and its inverse, and DES under a key.
 ghost use Rattle.std.specs.Prelude.{◌≡◌};
 ghost use Rattle.cipher.specs.Bits.{permuted};
-ghost use Rattle.cipher.specs.Des.{encrypted, decrypted, encrypted_with, decrypted_with};
-ghost use Rattle.cipher.specs.Schedule.{round_keys};
+ghost use Rattle.cipher.specs.Des.{encrypted, decrypted};
 ghost use Rattle.cipher.specs.Tables.{initial_permutation, final_permutation};
 
 use crate::exchange::exchange;
-use crate::key_schedule::{Schedule, reversed, round_keys};
-use crate::rounds::{expand, rounds};
+use crate::schedule::Schedule;
 
 // The initial permutation IP.
 pub(crate) fn initial_permutation(block: u64) -> u64
@@ -31,42 +29,16 @@ pub(crate) fn final_permutation(block: u64) -> u64
     exchange(3, 0x1111_1111_1111_1111, d)
 }
 
-// A key's schedule, for a key that is used again.
-pub fn schedule(key: u64) -> Schedule
-    ensures { result.keys ≡ round_keys key }
-{
-    let keys = round_keys(key);
-    Schedule { keys }
-}
-
-// A block encrypted under a schedule.
-pub fn encrypt_with(schedule: Schedule, block: u64) -> u64
-    ensures { result ≡ encrypted_with schedule.keys block }
-{
-    let x = initial_permutation(block);
-    final_permutation(rounds(&schedule.keys, expand(x >> 32), expand(x % 0x1_0000_0000)))
-}
-
-// A block decrypted under a schedule: the round keys are taken in reverse order.
-pub fn decrypt_with(schedule: Schedule, block: u64) -> u64
-    ensures { result ≡ decrypted_with schedule.keys block }
-{
-    let forward = schedule.keys;
-    let keys = reversed(forward);
-    let x = initial_permutation(block);
-    final_permutation(rounds(&keys, expand(x >> 32), expand(x % 0x1_0000_0000)))
-}
-
 // A block encrypted under a key.
 pub fn encrypt(key: u64, block: u64) -> u64
     ensures { result ≡ encrypted key block }
 {
-    encrypt_with(schedule(key), block)
+    Schedule::new(key).encrypt(block)
 }
 
 // A block decrypted under a key.
 pub fn decrypt(key: u64, block: u64) -> u64
     ensures { result ≡ decrypted key block }
 {
-    decrypt_with(schedule(key), block)
+    Schedule::new(key).decrypt(block)
 }

@@ -1,18 +1,12 @@
-// The key schedule: sixteen round keys from a key, and their reverse. Rotated by any number of places, C and D have the same
+// The key schedule: sixteen round keys from a key. Rotated by any number of places, C and D have the same
 // 28 windows of seven bits each; a round key is put together from four of them.
-ghost use Rattle.std.specs.Prelude.{reverse, ◌≡◌, ◌^◌, ◌<◌, ◌≤◌, length};
+ghost use Rattle.std.specs.Prelude.{◌≡◌, ◌^◌, ◌<◌, ◌≤◌};
 ghost use Rattle.cipher.specs.Bits.{permuted};
 ghost use Rattle.cipher.specs.Private.{Windows, from_windows};
 ghost use Rattle.cipher.specs.Schedule.{round_keys};
 ghost use Rattle.cipher.specs.Tables.{permuted_choice1};
 
 use crate::exchange::exchange;
-
-// The sixteen round keys in the order in which they encrypt.
-#[derive(Clone, Copy)]
-pub struct Schedule {
-    pub keys: [u64; 16],
-}
 
 // How many places C and D are rotated before each round, all in all.
 const PLACES: [u8; 16] = [1, 2, 4, 6, 8, 10, 12, 14, 15, 17, 19, 21, 23, 25, 27, 28];
@@ -34,26 +28,26 @@ pub(crate) fn permuted_choice_1(key: u64) -> u64
 
 // What PC-2 gives for the 28 windows of C and D, each standing four times in its half; then the same again. C and D stand
 // twice in a row from the first bit of a word on, and move a place to the left for each window.
-pub(crate) fn windows(halves: u64, words: &mut [u64])
-    requires { (halves < 2 ^ 56) × (length words.old ≡ 56) }
-    ensures { Windows halves words.new }
+pub(crate) fn windows(halves: u64) -> [u64; 56]
+    requires { halves < 2 ^ 56 }
+    ensures { Windows halves result }
 {
     let mut c = (halves >> 28) * 0x10_0000_0100;
     let mut d = (halves % 0x1000_0000) * 0x10_0000_0100;
-    let mut p: usize = 0;
-    while p < 28 {
+    let mut words = [0u64; 56];
+    for p in 0..28 {
         let word = merged::choice(c >> 57, d >> 57);
         words[p] = word;
         words[p + 28] = word;
         c <<= 1;
         d <<= 1;
-        p += 1;
     }
+    words
 }
 
 // The round key of C and D rotated n places: of each of its four windows the bits that PC-2 takes there.
-fn round_key(words: &[u64], n: usize) -> u64
-    requires { (length words.now ≡ 56) × (n ≤ 28) }
+fn round_key(words: &[u64; 56], n: usize) -> u64
+    requires { n ≤ 28 }
     ensures { result ≡ from_windows words.now n }
 {
     (words[n] & 0x0E41_1122_2083)
@@ -66,27 +60,11 @@ fn round_key(words: &[u64], n: usize) -> u64
 pub(crate) fn round_keys(key: u64) -> [u64; 16]
     ensures { result ≡ round_keys key }
 {
-    let mut words = [0u64; 56];
-    windows(permuted_choice_1(key), &mut words);
-    let places = PLACES;
+    let words = windows(permuted_choice_1(key));
     let mut keys = [0u64; 16];
-    let mut i: usize = 0;
-    while i < 16 {
-        keys[i] = round_key(&words, places[i] as usize);
-        i += 1;
+    for (i, n) in PLACES.iter().enumerate() {
+        // widened by `as`: with `from` the proof did not close
+        keys[i] = round_key(&words, *n as usize);
     }
     keys
-}
-
-// The round keys in reverse order.
-pub(crate) fn reversed(keys: [u64; 16]) -> [u64; 16]
-    ensures { result ≡ reverse keys }
-{
-    let mut back = [0u64; 16];
-    let mut i: usize = 0;
-    while i < 16 {
-        back[15 - i] = keys[i];
-        i += 1;
-    }
-    back
 }

@@ -10,11 +10,12 @@ mod key_schedule;
 mod keys;
 mod printed;
 mod rounds;
+mod schedule;
 mod tables;
 mod triple;
 
-pub use checks::self_test;
-pub use des::{decrypt, decrypt_with, encrypt, encrypt_with, schedule};
-pub use key_schedule::Schedule;
+pub use checks::{Check, self_test};
+pub use des::{decrypt, encrypt};
 pub use keys::same_key;
+pub use schedule::Schedule;
 pub use triple::{triple_decrypt, triple_encrypt};

@@ -9,7 +9,7 @@ ghost use Rattle.cipher.specs.Tables;
 use crate::bits::permute;
 use crate::tables::{
     EXPANSION, FINAL_PERMUTATION, INITIAL_PERMUTATION, LEFT_SHIFTS, PERMUTED_CHOICE_1,
-    PERMUTED_CHOICE_2, ROUND_PERMUTATION, S1, S2, S3, S4, S5, S6, S7, S8,
+    PERMUTED_CHOICE_2, ROUND_PERMUTATION, S_BOXES,
 };
 
 // The initial permutation IP.
@@ -33,30 +33,26 @@ pub(crate) fn expand(x: u64) -> u64
     permute(32, &EXPANSION, x)
 }
 
-// The bits of `before`, and after them the four that an S-box gives for six bits of x, which have `right` bits on their
-// right.
-fn substitute_six(before: u64, table: &[u8; 64], x: u64, right: u64) -> u64
-    requires { (before < 2 ^ 28) × (right < 64) × SBox table.now }
-    ensures { (result ≡ before * 16 + Rounds.s_box table.now (x / 2 ^ right % 64)) × (result < before * 16 + 16) }
+// The entry of an S-box at the row and the column of six bits.
+fn s_box(table: &[u8; 64], six: u64) -> u64
+    requires { (six < 64) × SBox table.now }
+    ensures { (result ≡ Rounds.s_box table.now six) × (result < 16) }
 {
-    let six = (x >> right) % 64;
     let row = six / 32 * 2 + six % 2;
     let column = six / 2 % 16;
-    before * 16 + table[(row * 16 + column) as usize] as u64
+    // widened by `as`, as the shifts below: with `from` the proof did not close
+    table[(row * 16 + column) as usize] as u64
 }
 
 // The eight S-boxes: 48 bits to 32.
 fn substitute(x: u64) -> u64
     ensures { result ≡ Rounds.substituted x }
 {
-    let y1 = substitute_six(0, &S1, x, 42);
-    let y2 = substitute_six(y1, &S2, x, 36);
-    let y3 = substitute_six(y2, &S3, x, 30);
-    let y4 = substitute_six(y3, &S4, x, 24);
-    let y5 = substitute_six(y4, &S5, x, 18);
-    let y6 = substitute_six(y5, &S6, x, 12);
-    let y7 = substitute_six(y6, &S7, x, 6);
-    substitute_six(y7, &S8, x, 0)
+    let mut y = 0;
+    for (i, table) in S_BOXES.iter().enumerate() {
+        y = y * 16 + s_box(table, (x >> (42 - 6 * i)) % 64);
+    }
+    y
 }
 
 // The permutation P.
@@ -103,13 +99,10 @@ pub(crate) fn round_keys(key: u64) -> [u64; 16]
     let mut c = halves >> 28;
     let mut d = halves % 0x1000_0000;
     let mut keys = [0u64; 16];
-    let mut i: usize = 0;
-    while i < 16 {
-        let n = LEFT_SHIFTS[i] as u64;
-        c = rotate_left(n, c);
-        d = rotate_left(n, d);
+    for (i, n) in LEFT_SHIFTS.iter().enumerate() {
+        c = rotate_left(*n as u64, c);
+        d = rotate_left(*n as u64, d);
         keys[i] = permuted_choice_2(c * 0x1000_0000 + d);
-        i += 1;
     }
     keys
 }

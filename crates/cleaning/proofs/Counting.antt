@@ -1,20 +1,17 @@
 -- Laws on what cleaning throws away.
 use borrow.Author.Tests.{ne_eqb}
-use mathlib.Core.Path.{◌≡◌, refl, ap, ◌∙◌}
-use mathlib.Core.Bool.{true, false}
+use mathlib.Core.Path.{◌≡◌, refl, ◌∙◌}
+use mathlib.Core.Bool.{Bool, true, false}
 use mathlib.Core.List.{List, [], ◌∷◌, ◌++◌}
-use Prim.Native.Nat.{ℕ, zero, suc, ◌+◌, ◌-◌, ◌≤◌}
+use Prim.Native.Nat.{ℕ, ◌+◌, ◌-◌, ◌≤◌}
 use native.Mathlib.Omega.{arith}
 use lib.Dec.{eqb}
-use lib.ListN.{length, replicate, length-append, length-replicate}
-use lib.Seq.{length-take-le}
+use lib.ListN.{length, length-append}
 use Rattle.lent.specs.Characters.{small, capitalized}
 use Rattle.lent.proofs.Laws.{cases, between_true, within}
 use Rattle.cleaning.specs.Cleaning.{kept, cleaned}
 use Rattle.cleaning.specs.Counts.{stays, dropped_from, spaces_in, spaces_out_of}
-use Rattle.cleaning.specs.Private.{CleanedInto}
-use Rattle.cleaning.specs.declared.Cleaned.{Cleaned}
-use Rattle.cleaning.proofs.Pass.{pass, space_kept, cleaned_pass}
+use Rattle.cleaning.proofs.Pass.{space_if, at_most_one, pass, space_kept, cleaned_pass}
 
 -- a character stays exactly if its capital is kept
 stays_kept : (x : ℕ) → stays x ≡ kept (capitalized x)
@@ -56,42 +53,38 @@ module _ (x : ℕ) (s : List ℕ) where
   unfolding spaces_in
   no_space n = simp (space_alone x ∙ n)
 
--- spaces, and a character that is none, before a text
-owed_spaces : (owed y : ℕ) (s : List ℕ) → eqb y 32 ≡ false → spaces_in (replicate owed 32 ++ y ∷ s) ≡ owed + spaces_in s
+-- a space that is owed, and a character that is none, before a text
+owed_spaces : (owed : Bool) (y : ℕ) (s : List ℕ) → eqb y 32 ≡ false → spaces_in (space_if owed ++ y ∷ s) ≡ length (space_if owed) + spaces_in s
 unfolding spaces_in
-owed_spaces zero y s n = simp n (omega arith)
-owed_spaces (suc owed) y s n = omega (arith, owed_spaces owed y s n)
+owed_spaces true y s n = simp n (omega arith)
+owed_spaces false y s n = simp n (omega arith)
 
 -- Of the rest of a text, what is dropped, the spaces and what is written are as many as its bytes and the spaces that are written. Of these there are
 -- no more than the text has and is owed.
-balance : (s : List ℕ) (started owed : ℕ) → started ≤ 1
-    → let r = pass started owed s in (dropped_from s + spaces_in s + length r ≡ length s + spaces_in r) × (spaces_in r ≤ spaces_in s + owed)
+balance : (s : List ℕ) (started owed : Bool)
+    → let r = pass started owed s in (dropped_from s + spaces_in s + length r ≡ length s + spaces_in r) × (spaces_in r ≤ spaces_in s + length (space_if owed))
 unfolding pass
-balance [] started owed h = omega (arith, nothing_dropped)
-balance (x ∷ s) started owed h =
+balance [] started owed = omega (arith, nothing_dropped)
+balance (x ∷ s) started owed =
     let y = capitalized x in
     cases (eqb y 32)
     (λ e.
-    let b = balance s started started h in
-    simp e (omega (arith, b.0, b.1, one_space x s e, none_dropped x s (space_kept y e))))
+    let b = balance s started started in
+    simp e (omega (arith, b.0, b.1, at_most_one started, one_space x s e, none_dropped x s (space_kept y e))))
     (λ n.
     cases (kept y)
     (λ k.
-    let b = balance s 1 0 (omega arith) in
-    simp (n, k, length-append, length-replicate) (omega (arith, b.0, b.1, no_space x s n, none_dropped x s k, owed_spaces owed y (pass 1 0 s) n)))
+    let b = balance s true false in
+    simp (n, k, length-append) (omega (arith, b.0, b.1, no_space x s n, none_dropped x s k, owed_spaces owed y (pass true false s) n)))
     (λ k.
-    let b = balance s started owed h in
+    let b = balance s started owed in
     simp (n, k) (omega (arith, b.0, b.1, no_space x s n, one_dropped x s k))))
 
 -- a cleaned text has no more spaces than the text, so that the spaces that go out are their difference
 pub no_more_spaces : (s : List ℕ) → spaces_in (cleaned s) ≤ spaces_in s
-no_more_spaces s = rw cleaned_pass (omega (arith, (balance s 0 0 (omega arith)).1))
+no_more_spaces s = rw cleaned_pass (omega (arith, (balance s false false).1))
 
 -- a text's size is that of the cleaned text, with the bytes that are dropped and the spaces that go out
 pub sizes : (s : List ℕ) → length s ≡ length (cleaned s) + dropped_from s + spaces_out_of s
 unfolding spaces_out_of
-sizes s = let b = balance s 0 0 (omega arith) in rw cleaned_pass (omega (arith, b.0, b.1))
-
--- what the pass neither wrote nor dropped are the spaces that went out
-pub spaces_left : {s after : List ℕ} {r : Cleaned} → CleanedInto s r after → length s ≡ r.length + r.dropped + spaces_out_of s
-spaces_left {s} {after} {r} w = omega (arith, sizes s, ap length w.text, length-take-le r.length after w.within, w.dropped)
+sizes s = let b = balance s false false in rw cleaned_pass (omega (arith, b.0, b.1))

@@ -1,45 +1,50 @@
 -- The one pass of the program, and that it does the four steps of the definition.
 use borrow.Author.Tests.{eqb-true, eq-eqb, ne_eqb}
 use mathlib.Core.Path.{◌≡◌, refl, sym, ap, ◌∙◌}
-use mathlib.Core.Bool.{true, false}
-use mathlib.Core.List.{List, [], ◌∷◌, ◌++◌, append-nil, reverse, reverse-cons, reverse-append}
-use Prim.Native.Nat.{ℕ, zero, suc, ◌+◌, ◌<◌, ◌≤◌}
-use native.Mathlib.Nat.{add-zero}
-use native.Mathlib.Numerals.{add-one}
+use mathlib.Core.Bool.{Bool, true, false}
+use mathlib.Core.List.{List, [], ◌∷◌, ◌++◌, reverse, reverse-cons, reverse-append}
+use Prim.Native.Nat.{ℕ, ◌≤◌}
 use native.Mathlib.Omega.{arith}
 use lib.Dec.{eqb}
-use lib.ListN.{length, get_or, set, drop, replicate, length-append}
-use lib.Seq.{drop-cons, set_at, append_snoc, set-set}
+use lib.ListN.{length}
 use Rattle.lent.specs.Choice.{pick}
 use Rattle.lent.specs.Characters.{capitalized}
-use Rattle.lent.specs.Result.{over}
 use Rattle.lent.proofs.Laws.{cases}
 use Rattle.cleaning.specs.Cleaning.{kept, capitals, kept_only, trimmed_start, trimmed_end, trimmed, closed_up, cleaned, unless_double}
 
--- what is written for the rest of a text: `started` is 1 where a character was written before it, `owed` where a space is owed
-unfoldable pub pass : ℕ → ℕ → List ℕ → List ℕ
+-- a space where one is owed
+abbrev pub space_if : Bool → List ℕ
+space_if true = 32 ∷ []
+space_if false = []
+
+pub at_most_one : (owed : Bool) → length (space_if owed) ≤ 1
+at_most_one true = omega arith
+at_most_one false = omega arith
+
+-- what is written for the rest of a text: whether a character was written before it, and whether a space is owed
+unfoldable pub pass : Bool → Bool → List ℕ → List ℕ
 pass started owed [] = []
 pass started owed (x ∷ s) =
     pick (eqb (capitalized x) 32) (pass started started s)
-    (pick (kept (capitalized x)) (replicate owed 32 ++ capitalized x ∷ pass 1 0 s) (pass started owed s))
+    (pick (kept (capitalized x)) (space_if owed ++ capitalized x ∷ pass true false s) (pass started owed s))
 
 -- the same of a text after the first two steps
-unfoldable spacing : ℕ → ℕ → List ℕ → List ℕ
+unfoldable spacing : Bool → Bool → List ℕ → List ℕ
 spacing started owed [] = []
-spacing started owed (x ∷ s) = pick (eqb x 32) (spacing started started s) (replicate owed 32 ++ x ∷ spacing 1 0 s)
+spacing started owed (x ∷ s) = pick (eqb x 32) (spacing started started s) (space_if owed ++ x ∷ spacing true false s)
 
 pub space_kept : (x : ℕ) → eqb x 32 ≡ true → kept x ≡ true
 unfolding kept
 space_kept x e = rw (eqb-true x 32 e)
 
-pass_spacing : (s : List ℕ) (started owed : ℕ) → pass started owed s ≡ spacing started owed (kept_only (capitals s))
+pass_spacing : (s : List ℕ) (started owed : Bool) → pass started owed s ≡ spacing started owed (kept_only (capitals s))
 unfolding pass spacing kept_only capitals
 pass_spacing [] started owed = refl
 pass_spacing (x ∷ s) started owed =
     let y = capitalized x in
     cases (eqb y 32) (λ e. simp (e, space_kept y e, pass_spacing s started started))
     (λ n.
-    cases (kept y) (λ k. simp (n, k, pass_spacing s 1 0)) (λ k. simp (n, k, pass_spacing s started owed)))
+    cases (kept y) (λ k. simp (n, k, pass_spacing s true false)) (λ k. simp (n, k, pass_spacing s started owed)))
 
 -- a character before a text: a space before nothing goes
 abbrev unless_last : ℕ → List ℕ → List ℕ
@@ -87,14 +92,14 @@ two_spaces (x ∷ s) = double (unless_double x (closed_up s))
 mutual
   unfolding spacing closed_up without_end
 
-  none_owed : (s : List ℕ) → spacing 1 0 s ≡ closed_up (without_end s)
+  none_owed : (s : List ℕ) → spacing true false s ≡ closed_up (without_end s)
   none_owed [] = refl
   none_owed (x ∷ s) =
       cases (eqb x 32)
       (λ e. simp e (one_owed s ∙ ap (λ (y : ℕ). closed_up (unless_last y (without_end s))) (sym (eqb-true x 32 e))))
       (λ n. simp (n, last_stays x (without_end s) n, single_stays x (closed_up (without_end s)) n, none_owed s))
 
-  one_owed : (s : List ℕ) → spacing 1 1 s ≡ closed_up (without_end (32 ∷ s))
+  one_owed : (s : List ℕ) → spacing true true s ≡ closed_up (without_end (32 ∷ s))
   one_owed [] = refl
   one_owed (x ∷ s) =
       cases (eqb x 32)
@@ -105,7 +110,7 @@ mutual
       ∙ ap (λ (y : ℕ). closed_up (unless_last 32 (unless_last y (without_end s)))) (sym (eqb-true x 32 e))))
       (λ n. simp (n, last_stays x (without_end s) n, single_stays x (closed_up (without_end s)) n, none_owed s))
 
-from_start : (s : List ℕ) → spacing 0 0 s ≡ closed_up (without_end (trimmed_start s))
+from_start : (s : List ℕ) → spacing false false s ≡ closed_up (without_end (trimmed_start s))
 unfolding spacing trimmed_start closed_up without_end
 from_start [] = refl
 from_start (x ∷ s) =
@@ -113,20 +118,20 @@ from_start (x ∷ s) =
     (λ n. simp (n, last_stays x (without_end s) n, single_stays x (closed_up (without_end s)) n, none_owed s))
 
 -- the pass does the four steps
-pub cleaned_pass : (s : List ℕ) → cleaned s ≡ pass 0 0 s
+pub cleaned_pass : (s : List ℕ) → cleaned s ≡ pass false false s
 unfolding cleaned trimmed
 cleaned_pass s =
     let k = kept_only (capitals s) in
-    ap closed_up (end_is (trimmed_start k)) ∙ sym (pass_spacing s 0 0 ∙ from_start k)
+    ap closed_up (end_is (trimmed_start k)) ∙ sym (pass_spacing s false false ∙ from_start k)
 
 -- a turn of the pass at a space
-pub pass_space : (x : ℕ) (s : List ℕ) (started owed : ℕ) → capitalized x ≡ 32 → pass started owed (x ∷ s) ≡ pass started started s
+pub pass_space : (x : ℕ) (s : List ℕ) (started owed : Bool) → capitalized x ≡ 32 → pass started owed (x ∷ s) ≡ pass started started s
 unfolding pass
 pass_space x s started owed e = simp (eq-eqb _ _ e)
 
-module _ (x : ℕ) (s : List ℕ) (started owed : ℕ) (no_space : capitalized x ≡ 32 → ⊥) where
+module _ (x : ℕ) (s : List ℕ) (started owed : Bool) (no_space : capitalized x ≡ 32 → ⊥) where
   -- a turn at another character that stays
-  pub pass_kept : kept (capitalized x) ≡ true → pass started owed (x ∷ s) ≡ replicate owed 32 ++ capitalized x ∷ pass 1 0 s
+  pub pass_kept : kept (capitalized x) ≡ true → pass started owed (x ∷ s) ≡ space_if owed ++ capitalized x ∷ pass true false s
   unfolding pass
   pass_kept k = simp (ne_eqb _ _ no_space, k)
 
@@ -134,20 +139,3 @@ module _ (x : ℕ) (s : List ℕ) (started owed : ℕ) (no_space : capitalized x
   pub pass_dropped : kept (capitalized x) ≡ false → pass started owed (x ∷ s) ≡ pass started owed s
   unfolding pass
   pass_dropped k = simp (ne_eqb _ _ no_space, k)
-
-pushed : (w old : List ℕ) (y : ℕ) → length w < length old → set (over w old) (length w) y ≡ over (w ++ (y ∷ [])) old
-pushed w old y h =
-    ap (λ (r : List ℕ). set (w ++ r) (length w) y) (drop-cons old (length w) 0 h)
-    ∙ set_at w (get_or old (length w) 0) (drop (suc (length w)) old) y (length w) refl
-    ∙ sym (append_snoc w y (drop (suc (length w)) old))
-    ∙ ap (λ (k : ℕ). w ++ (y ∷ []) ++ drop k old) (sym (length-append w (y ∷ []) ∙ add-one (length w)))
-
--- a character written after w, with the space that is owed before it
-pub owed_pushed : (w old : List ℕ) (owed y : ℕ) → owed ≤ 1 → length w + owed < length old
-    → set (set (over w old) (length w) 32) (length w + owed) y ≡ over (w ++ replicate owed 32 ++ (y ∷ [])) old
-owed_pushed w old zero y g h = rw (add-zero, set-set, append-nil) (pushed w old y (omega arith))
-owed_pushed w old (suc zero) y g h =
-    ap (λ (l : List ℕ). set l (length w + 1) y) (pushed w old 32 (omega arith))
-    ∙ ap (λ (k : ℕ). set (over (w ++ (32 ∷ [])) old) k y) (sym (length-append w (32 ∷ [])))
-    ∙ pushed (w ++ (32 ∷ [])) old y (simp length-append (omega arith))
-owed_pushed w old (suc (suc owed)) y g h = absurd (omega arith)

@@ -1,10 +1,12 @@
 -- What cleaning throws away (02, M-106), counted over the text before cleaning.
 use Rattle.std.specs.Prelude.{◌≡◌, Bool, not, List, ℕ, ◌-◌, eqb, length}
-use Rattle.lent.specs.Choice.{either, pick, only}
+use Rattle.lent.specs.Choice.{either, only}
 use Rattle.lent.specs.Characters.{small}
-use Rattle.lent.specs.Result.{Result, done, refused, and_then, lend, Written}
-use Rattle.lent.specs.declared.answers.Answer.{Answer}
+use Rattle.lent.specs.Refusals.{number_of}
+use Rattle.lent.specs.Result.{Result, done, refused, and_then, bytes, lend, over, Written}
 use Rattle.cleaning.specs.Cleaning.{space, kept, cleaned}
+use Rattle.cleaning.specs.declared.answers.Counts.{Counts}
+use Rattle.cleaning.specs.declared.answers.Cleaned.{Cleaned}
 use Rattle.cleaning.specs.declared.answers.TextAnswer.{TextAnswer}
 
 -- a kept character; small letters count as kept
@@ -42,12 +44,21 @@ pub record WrittenText (answer raw : Result (List ℕ)) (before : List ℕ) (r :
   pub written : Written answer before r.number r.length after
   pub counted : Counted (where_done (lend (length before) answer) raw) r.dropped r.spaces
 
--- the answer of a refusal
-abbrev pub refused_text : ℕ → TextAnswer
-refused_text n = record { number = n; length = 0; dropped = 0; spaces = 0 }
+-- what cleaning threw away, counted over the text before it
+abbrev pub counts_of : Result (List ℕ) → Counts
+counts_of raw = record { dropped = count_of dropped_from raw; spaces = count_of spaces_out_of raw }
 
--- an answer with the two numbers; that of a refusal has zeros
-abbrev pub with_counts : Answer → ℕ → ℕ → TextAnswer
-with_counts a d s =
-    pick (eqb a.number 0) (record { number = a.number; length = a.length; dropped = d; spaces = s })
-    (refused_text a.number)
+-- what is answered of a text that was written, which was made of another
+abbrev pub cleaned_of : Result (List ℕ) → List ℕ → Cleaned
+cleaned_of raw text = record { length = length text; counts = counts_of raw }
+
+-- The promise of a function that writes what it makes of a cleaned text into lent memory: the length written and what was thrown away, or the refusal,
+-- and the memory afterwards.
+pub record WritesText (answer raw : Result (List ℕ)) (before : List ℕ) (r : Result Cleaned) (after : List ℕ) : Type 0 where
+  pub value : r ≡ and_then (lend (length before) answer) (λ text. done (cleaned_of raw text))
+  pub memory : after ≡ over (bytes (lend (length before) answer)) before
+
+-- what C gets of it: 0, the length and the two numbers, or the refusal's number and zeros
+abbrev pub text_answer_of : Result Cleaned → TextAnswer
+text_answer_of (done c) = record { number = 0; length = c.length; dropped = c.counts.dropped; spaces = c.counts.spaces }
+text_answer_of (refused why) = record { number = number_of why; length = 0; dropped = 0; spaces = 0 }

@@ -1,11 +1,11 @@
--- Only the contract of a private function cites this: what the pass over a text leaves.
-use Rattle.std.specs.Prelude.{◌≡◌, List, ℕ, ◌≤◌, length, take}
+-- Only the contract of a private function cites this: what the pass over a text makes.
+use Rattle.std.specs.Prelude.{◌≡◌, List, ℕ}
+use Rattle.lent.specs.Result.{done}
 use Rattle.cleaning.specs.Cleaning.{cleaned}
-use Rattle.cleaning.specs.Counts.{dropped_from}
-use Rattle.cleaning.specs.declared.Cleaned.{Cleaned}
+use Rattle.cleaning.specs.Counts.{counts_of}
+use Rattle.cleaning.specs.declared.CleanText.{CleanText}
 
--- the cleaned text stands at the start of memory, and the bytes that are not kept are counted
-pub record CleanedInto (s : List ℕ) (r : Cleaned) (after : List ℕ) : Type 0 where
-  pub within : r.length ≤ length after
-  pub text : take r.length after ≡ cleaned s
-  pub dropped : r.dropped ≡ dropped_from s
+-- the cleaned text, and what was thrown away
+pub record IsCleaned (s : List ℕ) (c : CleanText) : Type 0 where
+  pub text : c.text.items ≡ cleaned s
+  pub counts : c.counts ≡ counts_of (done s)

@@ -1,9 +1,25 @@
-// What an entry answers that makes something of a cleaned text.
+// What is answered of a cleaned text.
 ghost use Rattle.std.specs.Prelude.{◌≡◌};
-ghost use Rattle.cleaning.specs.Counts.{refused_text, with_counts};
+ghost use Rattle.cleaning.specs.Counts.{text_answer_of};
 
-// A value was written into lent memory: 0, its length, how many bytes of the text before cleaning were dropped and how many spaces went out, or
-// the refusal's number and zeros. It crosses to C as it is.
+use lent::Refusal;
+
+// What cleaning threw away: how many bytes of the text before it were dropped, and how many spaces went out.
+#[derive(Clone, Copy, Debug, PartialEq, Eq)]
+pub struct Counts {
+    pub dropped: usize,
+    pub spaces: usize,
+}
+
+// What is made of a cleaned text was written: its length, and what cleaning threw away.
+#[derive(Clone, Copy, Debug, PartialEq, Eq)]
+pub struct Cleaned {
+    pub length: usize,
+    pub counts: Counts,
+}
+
+// What C gets of a value that was written into lent memory: 0, its length, how many bytes of the text before cleaning were dropped and how many
+// spaces went out, or the refusal's number and zeros.
 #[repr(C)]
 #[derive(Clone, Copy)]
 pub struct TextAnswer {
@@ -13,29 +29,23 @@ pub struct TextAnswer {
     pub spaces: usize,
 }
 
-// The refusal of a value that was to be written.
-pub fn refused(number: u32) -> TextAnswer
-    ensures { result ≡ refused_text number }
-{
-    TextAnswer {
-        number,
-        length: 0,
-        dropped: 0,
-        spaces: 0,
-    }
-}
+impl From<Result<Cleaned, Refusal>> for TextAnswer {
+    ghost from_gives = { λ given answer. answer ≡ text_answer_of given };
 
-// An answer with the two numbers of what cleaning threw away; that of a refusal has zeros.
-pub fn counted(answer: lent::Answer, dropped: usize, spaces: usize) -> TextAnswer
-    ensures { result ≡ with_counts answer dropped spaces }
-{
-    if answer.number != lent::DONE {
-        return refused(answer.number);
-    }
-    TextAnswer {
-        number: answer.number,
-        length: answer.length,
-        dropped,
-        spaces,
+    fn from(given: Result<Cleaned, Refusal>) -> TextAnswer {
+        match given {
+            Ok(cleaned) => TextAnswer {
+                number: 0,
+                length: cleaned.length,
+                dropped: cleaned.counts.dropped,
+                spaces: cleaned.counts.spaces,
+            },
+            Err(why) => TextAnswer {
+                number: why.number(),
+                length: 0,
+                dropped: 0,
+                spaces: 0,
+            },
+        }
     }
 }

@@ -3,11 +3,9 @@
 #![tactic(auto)]
 
 mod arguments;
-mod input;
+mod console;
 mod numbers;
-mod output;
 
-pub use arguments::{answers_arguments, argument, argument_count, asks_for_help};
-pub use input::{Input, read_full, read_some};
+pub use arguments::{argument, argument_count, asks_for_help};
+pub use console::{Console, Standard, Told};
 pub use numbers::decimal;
-pub use output::write;

@@ -14,7 +14,7 @@ hex = 104 ∷ 101 ∷ 120 ∷ 58 ∷ []
 
 -- `-` says no bytes. A PIN, a card number, a password, a VIP number and a text are their characters, or what stands in hexadecimal after `hex:`; all else is
 -- hexadecimal.
-unfoldable pub input_bytes : Bool → List ℕ → Result (List ℕ)
+abbrev pub input_bytes : Bool → List ℕ → Result (List ℕ)
 input_bytes characters part =
     pick (same hyphen part) (done [])
     (pick characters (pick (starts_with hex part) (text_bytes (drop 4 part)) (done part))

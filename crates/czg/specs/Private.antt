@@ -1,29 +1,30 @@
--- Only contracts of private functions cite this: where the bytes of a request's inputs end, which they are, and what is answered for them.
-use Rattle.std.specs.Prelude.{◌≡◌, List, ◌++◌, ℕ, ◌-◌, ◌≤◌, length, take, drop}
-use Rattle.lent.specs.Result.{Result, bytes}
-use Rattle.czg.specs.Calls.{answer_at, text_at}
+-- Only contracts of private functions cite this: what is answered for the inputs that were read, and how many bytes of a line are held.
+use Rattle.std.specs.Prelude.{List, [], ℕ, slice_index_or}
+use Rattle.lent.specs.Result.{Result}
+use Rattle.czg.specs.Calls.{answer_of, text_answer_of, text_of}
 use Rattle.czg.specs.declared.inputs.Inputs.{Inputs}
+use Rattle.czg.specs.declared.reading.Rest.{Rest}
+use Rattle.czg.specs.declared.reading.Rest.TheVariants.{Held, Passed}
+use Rattle.czg.specs.declared.requests.Entry.{Entry}
+use Rattle.czg.specs.declared.requests.TextEntry.{TextEntry}
 
--- the first ends before the second, and the last within so many bytes
-pub record Within (i : Inputs) (n : ℕ) : Type 0 where
-  pub first : i.first ≤ i.second
-  pub second : i.second ≤ i.end
-  pub end : i.end ≤ n
+-- the bytes of an input
+abbrev pub part : Inputs → ℕ → List ℕ
+part i k = slice_index_or i.parts k []
 
--- an input that is taken adds its bytes after those before
-pub record Added (said : Result (List ℕ)) (i r : Inputs) (before after : List ℕ) : Type 0 where
-  pub within : Within r (length after)
-  pub bytes : r.fault ≡ 0 → take r.end after ≡ take i.end before ++ Rattle.lent.specs.Result.bytes said
+-- the answer of an entry for the inputs
+abbrev pub answer_for : Entry → Inputs → Result (List ℕ)
+answer_for entry i = answer_of entry (part i 0) (part i 1) (part i 2) i.number
 
--- the answer of the entry at a place for the inputs whose bytes stand in memory
-abbrev pub answer_for : ℕ → Inputs → List ℕ → Result (List ℕ)
-answer_for place i memory =
-    answer_at place
-    (take i.first memory)
-    (take (i.second - i.first) (drop i.first memory))
-    (take (i.end - i.second) (drop i.second memory))
-    i.number
+-- that of one that cleans a text
+abbrev pub text_answer_for : TextEntry → Inputs → Result (List ℕ)
+text_answer_for entry i = text_answer_of entry (part i 0) (part i 1)
 
 -- and the text before cleaning
-abbrev pub text_for : ℕ → Inputs → List ℕ → Result (List ℕ)
-text_for place i memory = text_at place (take i.first memory) (take (i.second - i.first) (drop i.first memory))
+abbrev pub text_for : TextEntry → Inputs → Result (List ℕ)
+text_for entry i = text_of entry (part i 0) (part i 1)
+
+-- how many bytes are held
+abbrev pub held : Rest → ℕ
+held (Held count) = count
+held Passed = 0

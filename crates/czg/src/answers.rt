@@ -1,109 +1,102 @@
-// The lines of the answers, one after the other in a buffer.
-ghost use Rattle.std.specs.Prelude.{◌≤◌, length};
+// The lines of the answers.
+use crate::faults::Fault;
+use crate::inputs::Inputs;
+use arrayvec::ArrayVec;
+use cipher::Check;
+use cleaning::Counts;
+use console::{Standard, Told};
+use lent::Refusal;
+use std::io::Write;
 
-use crate::faults::{MISSING, NO_NAME, NO_ROOM, NO_VALUE, NOT_A_NUMBER, NOT_BYTES, TOO_MANY};
+// Room that any answer fits in.
+const MOST_ANSWER: usize = 4096;
 
-// Puts a text after the first n bytes; a text for which there is no room is left out.
-pub(crate) fn put(out: &mut [u8], n: usize, text: &[u8]) -> usize
-    requires { n ≤ length out.old }
-    ensures { result ≤ length out.new }
-{
-    let written = lent::append(out, n, text);
-    if written.number != lent::DONE {
-        return n;
+// How a value is written.
+#[derive(Clone, Copy)]
+pub(crate) enum Form {
+    // In hexadecimal, in capitals.
+    Hexadecimal,
+    // As it is.
+    Text,
+}
+
+// The answers that are not written yet.
+#[derive(Drop)]
+pub(crate) struct Answers {
+    lines: ArrayVec<u8, 65536>,
+}
+
+impl Answers {
+    pub(crate) fn new() -> Answers {
+        Answers {
+            lines: ArrayVec::new(),
+        }
     }
-    written.length
-}
 
-// Puts the hexadecimal digits of bytes, in capitals; those for which there is no room are left out.
-fn put_digits(out: &mut [u8], n: usize, value: &[u8]) -> usize
-    requires { n ≤ length out.old }
-    ensures { result ≤ length out.new }
-{
-    let written = keyentry::append_text(out, n, value);
-    if written.number != lent::DONE {
-        return n;
+    // Writes what there is to standard output.
+    pub(crate) fn flush(&mut self, console: &mut Standard<'_>) -> Result<(), Told> {
+        console.write(self.lines.as_slice())?;
+        self.lines.clear();
+        Ok(())
     }
-    written.length
-}
 
-// Puts a space and a value: as it is where it is a text, else in hexadecimal; a hyphen where it has no bytes.
-pub(crate) fn put_value(out: &mut [u8], n: usize, text: bool, value: &[u8]) -> usize
-    requires { n ≤ length out.old }
-    ensures { result ≤ length out.new }
-{
-    let k = put(out, n, b" ");
-    if value.len() == 0 {
-        return put(out, k, b"-");
+    // Makes room for another answer.
+    pub(crate) fn make_room(&mut self, console: &mut Standard<'_>) -> Result<(), Told> {
+        if self.lines.remaining_capacity() < MOST_ANSWER {
+            return self.flush(console);
+        }
+        Ok(())
     }
-    if text {
-        return put(out, k, value);
+
+    // A text for which there is no room is left out.
+    pub(crate) fn put(&mut self, text: &[u8]) {
+        let _ = self.lines.try_extend_from_slice(text);
     }
-    put_digits(out, k, value)
-}
 
-// Puts a word and a number in decimal.
-pub(crate) fn put_number(out: &mut [u8], n: usize, word: &[u8], number: u64) -> usize
-    requires { n ≤ length out.old }
-    ensures { result ≤ length out.new }
-{
-    let k = put(out, n, word);
-    let mut digits = [0u8; 20];
-    let count = console::decimal(number, &mut digits);
-    put(out, k, &digits[..count])
-}
-
-// Puts a word and a number that end a line.
-pub(crate) fn put_line(out: &mut [u8], n: usize, word: &[u8], number: u64) -> usize
-    requires { n ≤ length out.old }
-    ensures { result ≤ length out.new }
-{
-    let k = put_number(out, n, word, number);
-    put(out, k, b"\n")
-}
-
-// Puts the line of a refusal.
-pub(crate) fn put_refused(out: &mut [u8], n: usize, number: u32) -> usize
-    requires { n ≤ length out.old }
-    ensures { result ≤ length out.new }
-{
-    put_line(out, n, b"refused ", number as u64)
-}
-
-// Puts the line of a self-test, from the number of the check that differs, 0 where none does.
-pub(crate) fn put_self_test(out: &mut [u8], n: usize, number: u32) -> usize
-    requires { n ≤ length out.old }
-    ensures { result ≤ length out.new }
-{
-    if number != 0 {
-        return put_line(out, n, b"failed ", number as u64);
+    // By a table of digits: `{x:02X}` takes a third longer for a line of `encrypt`.
+    fn put_digits(&mut self, value: &[u8]) {
+        let digits = b"0123456789ABCDEF";
+        for x in value {
+            self.put(&[digits[(x / 16) as usize], digits[(x % 16) as usize]]);
+        }
     }
-    put(out, n, b"done\n")
-}
 
-// Puts why a line is no request.
-fn put_reason(out: &mut [u8], n: usize, fault: u8) -> usize
-    requires { n ≤ length out.old }
-    ensures { result ≤ length out.new }
-{
-    match fault {
-        NO_NAME => put(out, n, b"no such request; help lists them"),
-        NO_ROOM => put(out, n, b"the room is no number up to 1024"),
-        MISSING => put(out, n, b"an input is missing"),
-        TOO_MANY => put(out, n, b"too many inputs"),
-        NOT_BYTES => put(out, n, b"an input is not hexadecimal bytes"),
-        NOT_A_NUMBER => put(out, n, b"a number is not decimal, or too large"),
-        NO_VALUE => put(out, n, b"the request has no value to lend room for"),
-        _ => put(out, n, b"the line is longer than 16384 bytes"),
+    // A space and a value; a hyphen where it has no bytes.
+    pub(crate) fn put_value(&mut self, form: Form, value: &[u8]) {
+        self.put(b" ");
+        match form {
+            _ if value.is_empty() => self.put(b"-"),
+            Form::Text => self.put(value),
+            Form::Hexadecimal => self.put_digits(value),
+        }
     }
-}
 
-// Puts the line of what is no request.
-pub(crate) fn put_unknown(out: &mut [u8], n: usize, fault: u8) -> usize
-    requires { n ≤ length out.old }
-    ensures { result ≤ length out.new }
-{
-    let k = put(out, n, b"unknown ");
-    let m = put_reason(out, k, fault);
-    put(out, m, b"\n")
+    // The line of a key, its serial number and the record after it, the first input.
+    pub(crate) fn put_next_key(&mut self, key: &[u8], serial: &[u8], i: &Inputs) {
+        self.put(b"done");
+        self.put_value(Form::Hexadecimal, key);
+        self.put_value(Form::Hexadecimal, serial);
+        self.put_value(Form::Hexadecimal, i.parts[0].as_slice());
+        self.put(b"\n");
+    }
+
+    // The line of a refusal.
+    pub(crate) fn put_refused(&mut self, why: Refusal) {
+        let _ = writeln!(self.lines, "refused {}", why.number());
+    }
+
+    // The line of a self-test in which a check differs.
+    pub(crate) fn put_failed(&mut self, check: Check) {
+        let _ = writeln!(self.lines, "failed {}", check.number());
+    }
+
+    // The end of an answer to what cleaned a text: what cleaning threw away.
+    pub(crate) fn put_thrown_away(&mut self, counts: Counts) {
+        let _ = writeln!(self.lines, " {} {}", counts.dropped, counts.spaces);
+    }
+
+    // The line of what is no request.
+    pub(crate) fn put_unknown(&mut self, fault: Fault) {
+        let _ = writeln!(self.lines, "unknown {fault}");
+    }
 }

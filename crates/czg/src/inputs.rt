@@ -1,131 +1,52 @@
-// The inputs of a request. Their bytes stand one after the other.
-ghost use Rattle.std.specs.Prelude.{◌≡◌, ◌+◌, ◌≤◌, length};
-ghost use Rattle.lent.specs.Result.{Written};
+// The inputs of a request.
+ghost use Rattle.std.specs.Prelude.{◌≡◌, OnOk};
+ghost use Rattle.lent.specs.Result.{Writes, bytes};
 ghost use Rattle.czg.specs.Inputs.{input_bytes};
-ghost use Rattle.czg.specs.Private.{Within, Added};
 
-use crate::faults::{MISSING, NOT_A_NUMBER, NOT_BYTES, TOO_MANY};
-use crate::lines::find;
-use crate::numbers::{Decimal, number_of};
+use crate::faults::Fault;
+use crate::lines::{MOST_LINE, cut};
+use crate::numbers::number_of;
+use std::marker::Model;
 
-// What was read of a line's inputs: 0 or why it is no request, how many inputs of bytes there are, up to two, where the bytes of the first, the second and the
-// last end, and the number.
-#[derive(Clone, Copy)]
+// The bytes of an input: no more than a line has. An array and a length, since what reads them writes into lent memory.
+#[derive(Drop)]
+pub(crate) struct Bytes {
+    pub(crate) memory: [u8; MOST_LINE],
+    pub(crate) length: usize,
+}
+
+impl Model for Bytes {
+    ghost use Rattle.std.specs.Prelude.{◌≤◌, List, ℕ, take};
+
+    ghost Value = { List ℕ };
+
+    ghost view = { λ b. take b.length b.memory };
+
+    ghost invariant = { λ b. b.length ≤ 16384 };
+}
+
+// How an input is written.
+#[derive(Clone, Copy, PartialEq, Eq)]
+enum Kind {
+    Hexadecimal,
+    // A PIN, a card number, a password, a VIP number.
+    Characters,
+    // Characters to the end of the line.
+    Text,
+    // A decimal number, of at most so much.
+    Number(u64),
+}
+
+// What is read of a line: up to three inputs of bytes, and a number.
+#[derive(Drop)]
 pub(crate) struct Inputs {
-    pub(crate) fault: u8,
-    pub(crate) count: u8,
-    pub(crate) first: usize,
-    pub(crate) second: usize,
-    pub(crate) end: usize,
+    pub(crate) parts: [Bytes; 3],
     pub(crate) number: u64,
 }
 
-// No inputs yet.
-fn nothing_read() -> Inputs
-    ensures { Within result 0 }
-{
-    Inputs {
-        fault: 0,
-        count: 0,
-        first: 0,
-        second: 0,
-        end: 0,
-        number: 0,
-    }
-}
-
-// The inputs of a line that is no request.
-fn faulty(i: Inputs, fault: u8) -> Inputs
-    ensures { (result.first ≡ i.first) × (result.second ≡ i.second) × (result.end ≡ i.end) × (result.fault ≡ fault) }
-{
-    let mut next = i;
-    next.fault = fault;
-    next
-}
-
-// The inputs with a number.
-fn with_number(i: Inputs, number: Decimal) -> Inputs
-    ensures { (result.first ≡ i.first) × (result.second ≡ i.second) × (result.end ≡ i.end) }
-{
-    if !number.read {
-        return faulty(i, NOT_A_NUMBER);
-    }
-    let mut next = i;
-    next.number = number.value;
-    next
-}
-
-// The inputs with one more, whose bytes end at `end`.
-fn with_bytes(i: Inputs, end: usize) -> Inputs
-    requires end_le_end { i.end ≤ end }
-    requires within { Within i i.end }
-    ensures within_2 { Within result end }
-    ensures end_value { result.end ≡ end }
-{
-    let mut next = i;
-    next.end = end;
-    if i.count == 0 {
-        next.count = 1;
-        next.first = end;
-        next.second = end;
-        return next;
-    }
-    if i.count == 1 {
-        next.count = 2;
-        next.second = end;
-        return next;
-    }
-    next
-}
-
-// The largest number that an input can be; 0 where it is no number.
-fn most_number(word: &[u8]) -> u64 {
-    if lent::same(word, b"SIZE") {
-        return 18446744073709551615;
-    }
-    if lent::same(word, b"SEQUENCE") {
-        return 4294967295;
-    }
-    if lent::same(word, b"NUMBER") {
-        return 4294967295;
-    }
-    if lent::same(word, b"COUNTER") {
-        return 65535;
-    }
-    0
-}
-
-// Whether an input is written as its characters: a PIN, a card number, a password, a VIP number, a text.
-fn is_characters(word: &[u8]) -> bool {
-    if lent::same(word, b"PIN") {
-        return true;
-    }
-    if lent::same(word, b"CARD") {
-        return true;
-    }
-    if lent::same(word, b"PASSWORD") {
-        return true;
-    }
-    if lent::same(word, b"DIGITS") {
-        return true;
-    }
-    lent::same(word, b"TEXT")
-}
-
-// Where the input that starts at `at` ends: a text at the line's end, any other at the next space.
-fn end_of(word: &[u8], line: &[u8], at: usize) -> usize
-    requires { at ≤ length line.now }
-    ensures { (at ≤ result) × (result ≤ length line.now) }
-{
-    if lent::same(word, b"TEXT") {
-        return line.len();
-    }
-    find(line, at, b' ')
-}
-
 // Writes the bytes that an input says. Refuses with 6 or 7 if it is not hexadecimal, 13 if there is no room.
-fn put_input(characters: bool, part: &[u8], out: &mut [u8]) -> lent::Answer
-    ensures { Written (input_bytes characters part.now) out.old result.number result.length out.new }
+fn put_input(characters: bool, part: &[u8], out: &mut [u8]) -> Result<usize, lent::Refusal>
+    ensures { Writes (input_bytes characters part.now) out.old result out.new }
 {
     if lent::same(part, b"-") {
         return lent::lend(b"", out);
@@ -139,63 +60,79 @@ fn put_input(characters: bool, part: &[u8], out: &mut [u8]) -> lent::Answer
     lent::lend(part, out)
 }
 
-// The inputs with the bytes that a part of a line says.
-fn with_part(characters: bool, part: &[u8], i: Inputs, bytes: &mut [u8]) -> Inputs
-    requires { Within i (length bytes.old) }
-    ensures { Added (input_bytes characters part.now) i result bytes.old bytes.new }
-{
-    let from = i.end;
-    let put = put_input(characters, part, &mut bytes[from..]);
-    if put.number != lent::DONE {
-        return faulty(i, NOT_BYTES);
-    }
-    with_bytes(i, from + put.length)
-}
-
-// The inputs with the one that a part of a line is, a number or bytes.
-fn with_input(word: &[u8], part: &[u8], i: Inputs, bytes: &mut [u8]) -> Inputs
-    requires { Within i (length bytes.old) }
-    ensures { Within result (length bytes.new) }
-{
-    if part.len() == 0 {
-        return faulty(i, MISSING);
-    }
-    let most = most_number(word);
-    if most != 0 {
-        return with_number(i, number_of(part, most));
-    }
-    with_part(is_characters(word), part, i, bytes)
-}
-
-// Where the word after the first space of a line starts; past the line's end where there is none.
-fn second_word(line: &[u8]) -> usize
-    ensures { result ≤ length line.now + 1 }
-{
-    find(line, 0, b' ') + 1
-}
-
-// Reads the inputs that a request's usage names.
-pub(crate) fn read_inputs(usage: &[u8], line: &[u8], bytes: &mut [u8]) -> Inputs
-    ensures { Within result (length bytes.new) }
-{
-    let mut i = nothing_read();
-    let mut place = second_word(usage);
-    let mut at = second_word(line);
-    while place < usage.len() {
-        if line.len() < at {
-            return faulty(i, MISSING);
+impl Bytes {
+    fn none() -> Bytes {
+        Bytes {
+            memory: [0; MOST_LINE],
+            length: 0,
         }
-        let word_end = find(usage, place, b' ');
-        let end = end_of(&usage[place..word_end], line, at);
-        i = with_input(&usage[place..word_end], &line[at..end], i, bytes);
-        if i.fault != 0 {
-            return i;
+    }
+
+    pub(crate) fn as_slice(&self) -> &[u8]
+        ensures { result.now ≡ self.now }
+    {
+        &self.memory[..self.length]
+    }
+
+    // The bytes that an input says take the place of those before.
+    fn read(&mut self, characters: bool, part: &[u8]) -> Result<(), Fault>
+        ensures { OnOk result (self.new ≡ bytes (input_bytes characters part.now)) }
+    {
+        let Ok(length) = put_input(characters, part, &mut self.memory) else {
+            return Err(Fault::NotBytes);
+        };
+        self.length = length;
+        Ok(())
+    }
+}
+
+impl Kind {
+    // What a word of the table says.
+    fn of(word: &[u8]) -> Kind {
+        match word {
+            b"TEXT" => Kind::Text,
+            b"PIN" | b"CARD" | b"PASSWORD" | b"DIGITS" => Kind::Characters,
+            b"SIZE" => Kind::Number(u64::MAX),
+            b"SEQUENCE" | b"NUMBER" => Kind::Number(u64::from(u32::MAX)),
+            b"COUNTER" => Kind::Number(u64::from(u16::MAX)),
+            _ => Kind::Hexadecimal,
         }
-        place = word_end + 1;
-        at = end + 1;
     }
-    if at <= line.len() {
-        return faulty(i, TOO_MANY);
+}
+
+impl Inputs {
+    pub(crate) fn new() -> Inputs {
+        Inputs {
+            parts: [Bytes::none(), Bytes::none(), Bytes::none()],
+            number: 0,
+        }
     }
-    i
+
+    // Reads the inputs that stand after a line's first space, as the words of the request's usage say.
+    pub(crate) fn read(&mut self, usage: &[u8], line: Option<&[u8]>) -> Result<(), Fault> {
+        let mut parts = self.parts.iter_mut();
+        let mut rest = line;
+        for word in usage.split(|x| *x == b' ').skip(1) {
+            let left = rest.ok_or(Fault::Missing)?;
+            let kind = Kind::of(word);
+            let (part, after) = match kind {
+                Kind::Text => (left, None),
+                _ => cut(left, b' '),
+            };
+            if part.is_empty() {
+                return Err(Fault::Missing);
+            }
+            if let Kind::Number(most) = kind {
+                self.number = number_of(part, most).ok_or(Fault::NotANumber)?;
+            } else {
+                let bytes = parts.next().ok_or(Fault::TooMany)?;
+                bytes.read(kind != Kind::Hexadecimal, part)?;
+            }
+            rest = after;
+        }
+        match rest {
+            Some(_) => Err(Fault::TooMany),
+            None => Ok(()),
+        }
+    }
 }

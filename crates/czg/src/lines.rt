@@ -1,17 +1,15 @@
 // The parts of a line.
-ghost use Rattle.std.specs.Prelude.{◌≡◌, ◌≤◌, length, take};
+ghost use Rattle.std.specs.Prelude.{◌≤◌, ◌<◌, length, IfSome};
 
-// The first place from `from` on where x stands, or the end.
-pub(crate) fn find(s: &[u8], from: usize, x: u8) -> usize
-    requires { from ≤ length s.now }
-    ensures { (from ≤ result) × (result ≤ length s.now) × (result ≡ length (take result s.now)) }
+// The longest line.
+pub(crate) const MOST_LINE: usize = 16384;
+
+// What stands before the first separator, and what stands after it, where there is one.
+pub(crate) fn cut(text: &[u8], separator: u8) -> (&[u8], Option<&[u8]>)
+    ensures { IfSome result.1 (λ rest. length rest.now < length text.now) }
 {
-    let mut i = from;
-    while i < s.len() {
-        if s[i] == x {
-            return i;
-        }
-        i += 1;
+    match text.iter().position(|x| *x == separator) {
+        Some(at) => (&text[..at], Some(&text[at + 1..])),
+        None => (text, None),
     }
-    i
 }

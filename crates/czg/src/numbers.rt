@@ -1,55 +1,15 @@
 // Decimal numbers in a request.
-ghost use Rattle.std.specs.Prelude.{◌≤◌};
+ghost use Rattle.std.specs.Prelude.{◌≤◌, IfSome};
 
-// Whether a text is a number in its range, and that number, else 0.
-#[derive(Drop)]
-pub(crate) struct Decimal {
-    pub(crate) read: bool,
-    pub(crate) value: u64,
-}
+use std::str;
 
-// The value of a digit.
-fn value_of(x: u8) -> u64
-    ensures { result ≤ 15 }
+// The number of a decimal text, if it is from 0 to `most`.
+pub(crate) fn number_of(text: &[u8], most: u64) -> Option<u64>
+    ensures { IfSome result (λ n. n ≤ most) }
 {
-    (x % 16) as u64
-}
-
-// What a text is that is no number in its range.
-fn no_number() -> Decimal
-    ensures { result.value ≤ 0 }
-{
-    Decimal {
-        read: false,
-        value: 0,
+    if !text.iter().all(|x| x.is_ascii_digit()) {
+        return None;
     }
-}
-
-// The number of a decimal text, from 0 to `most`.
-pub(crate) fn number_of(text: &[u8], most: u64) -> Decimal
-    ensures { result.value ≤ most }
-{
-    if text.len() == 0 {
-        return no_number();
-    }
-    let mut n: u64 = 0;
-    let mut i: usize = 0;
-    while i < text.len() {
-        if !lent::is_digit(text[i]) {
-            return no_number();
-        }
-        let d = value_of(text[i]);
-        if n > (18446744073709551615 - d) / 10 {
-            return no_number();
-        }
-        n = n * 10 + d;
-        i += 1;
-    }
-    if n > most {
-        return no_number();
-    }
-    Decimal {
-        read: true,
-        value: n,
-    }
+    let n = str::from_utf8(text).ok()?.parse::<u64>().ok()?;
+    (n <= most).then_some(n)
 }

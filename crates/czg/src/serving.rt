@@ -1,169 +1,132 @@
-// The lines of the input, each answered.
-ghost use Rattle.std.specs.Prelude.{◌+◌, ◌≤◌, length};
+// What answers requests.
+use crate::answers::Answers;
+use crate::faults::Fault;
+use crate::inputs::Inputs;
+use crate::lines::{MOST_LINE, cut};
+use crate::requests::{Entry, KeyLength, Request, TextEntry};
+use crate::rooms::{MOST_ROOM, Rooms};
+use crate::usages::request_named;
+use console::{Standard, Told};
+use lent::Refusal;
 
-use crate::answers::{put, put_unknown};
-use crate::calls::{SELF_TEST, answer, is_next_key};
-use crate::faults::{NO_NAME, NO_ROOM, NO_VALUE, TOO_LONG};
-use crate::inputs::read_inputs;
-use crate::lines::find;
-use crate::requests::{name_of, rooms_of, says_room, usage_of, without_label};
-use std::io::{Stderr, Stdout};
-
-// The longest line.
-pub(crate) const MOST_LINE: usize = 16384;
-
-// Room that any answer fits in.
-const MOST_ANSWER: usize = 4096;
-
-// Answers a request.
-fn answer_request(table: &[u8], line: &[u8], bytes: &mut [u8], out: &mut [u8], n: usize) -> usize
-    requires { n ≤ length out.old }
-    ensures { result ≤ length out.new }
-{
-    let head_end = find(line, 0, b' ');
-    let head = without_label(&line[..head_end]);
-    let usage = usage_of(table, name_of(head));
-    if !usage.found {
-        return put_unknown(out, n, NO_NAME);
-    }
-    if usage.place == SELF_TEST && says_room(head) {
-        return put_unknown(out, n, NO_VALUE);
-    }
-    let rooms = rooms_of(head, is_next_key(usage.place));
-    if !rooms.lent {
-        return put_unknown(out, n, NO_ROOM);
-    }
-    let from = usage.from;
-    let to = usage.to;
-    let inputs = read_inputs(&table[from..to], line, bytes);
-    if inputs.fault != 0 {
-        return put_unknown(out, n, inputs.fault);
-    }
-    answer(usage.place, inputs, rooms, bytes, out, n)
-}
-
-// Answers a line: nothing for an empty one and for a comment.
-pub(crate) fn answer_line(
-    table: &[u8],
-    line: &[u8],
-    bytes: &mut [u8],
-    out: &mut [u8],
-    n: usize,
-) -> usize
-    requires { n ≤ length out.old }
-    ensures { result ≤ length out.new }
-{
-    if line.len() == 0 {
-        return n;
-    }
-    if MOST_LINE < line.len() {
-        return put_unknown(out, n, TOO_LONG);
-    }
-    if line[0] == b'#' {
-        return n;
-    }
-    if lent::same(line, b"help") {
-        return put(out, n, table);
-    }
-    answer_request(table, line, bytes, out, n)
-}
-
-// The answers so far: how many bytes they are, and whether a write of earlier ones failed.
+// The program's streams, the text of help, and the memory for a request's inputs and for the answers.
 #[derive(Drop)]
-pub(crate) struct Written {
-    pub(crate) count: usize,
-    pub(crate) failed: bool,
+pub(crate) struct Service<'a> {
+    pub(crate) console: Standard<'a>,
+    help: &'a [u8],
+    inputs: Inputs,
+    answers: Answers,
 }
 
-// Writes the answers so far.
-pub(crate) fn flushed(stdout: &mut Stdout, errors: &mut Stderr, out: &[u8], n: usize) -> Written
-    requires { n ≤ length out.now }
-    ensures { result.count ≤ 0 }
-{
-    let written = console::write(stdout, errors, b"czg", &out[..n]);
-    Written {
-        count: 0,
-        failed: written < n,
-    }
-}
-
-// Writes the answers so far where there is no room for another.
-fn with_room(stdout: &mut Stdout, errors: &mut Stderr, out: &[u8], n: usize) -> Written
-    requires { n ≤ length out.now }
-    ensures { result.count ≤ length out.now }
-{
-    if out.len() - n < MOST_ANSWER {
-        return flushed(stdout, errors, out, n);
-    }
-    Written {
-        count: n,
-        failed: false,
-    }
-}
-
-// What was done with a part of the input: where its last line, which has no end yet, starts, whether the rest of a line that is too long is passed over, and
-// whether a write failed.
-#[derive(Drop)]
-pub(crate) struct Served {
-    pub(crate) at: usize,
-    pub(crate) passing: bool,
-    pub(crate) failed: bool,
-}
-
-// Answers a line that is not the rest of one that was too long.
-fn answered(
-    table: &[u8],
-    line: &[u8],
-    rest: bool,
-    bytes: &mut [u8],
-    out: &mut [u8],
-    n: usize,
-) -> usize
-    requires { n ≤ length out.old }
-    ensures { result ≤ length out.new }
-{
-    if rest {
-        return n;
-    }
-    answer_line(table, line, bytes, out, n)
-}
-
-// Answers every whole line of a part of the input and writes the answers. The rest of a line that was too long has its answer.
-pub(crate) fn serve(
-    stdout: &mut Stdout,
-    errors: &mut Stderr,
-    table: &[u8],
-    input: &[u8],
-    passing: bool,
-    bytes: &mut [u8],
-    out: &mut [u8],
-) -> Served
-    ensures { result.at ≤ length input.now }
-{
-    let mut at: usize = 0;
-    let mut rest = passing;
-    let mut n: usize = 0;
-    while at < input.len() {
-        let end = find(input, at, b'\n');
-        if end == input.len() {
-            break;
+impl<'a> Service<'a> {
+    pub(crate) fn new(console: Standard<'a>, help: &'a [u8]) -> Service<'a> {
+        Service {
+            console,
+            help,
+            inputs: Inputs::new(),
+            answers: Answers::new(),
         }
-        let room = with_room(stdout, errors, out, n);
-        if room.failed {
-            return Served {
-                at,
-                passing: rest,
-                failed: true,
-            };
-        }
-        n = answered(table, &input[at..end], rest, bytes, out, room.count);
-        rest = false;
-        at = end + 1;
     }
-    let written = flushed(stdout, errors, out, n);
-    Served {
-        at,
-        passing: rest,
-        failed: written.failed,
+
+    // Answers a request with one value.
+    fn answer_value(&mut self, entry: Entry, rooms: Rooms) -> Result<(), Refusal> {
+        let mut value = [0u8; MOST_ROOM];
+        let length = entry.call(&self.inputs, &mut value[..rooms.first])?;
+        self.answers.put(b"done");
+        self.answers.put_value(entry.form(), &value[..length]);
+        self.answers.put(b"\n");
+        Ok(())
+    }
+
+    // Answers a request with one value, and with what cleaning threw away.
+    fn answer_text(&mut self, entry: TextEntry, rooms: Rooms) -> Result<(), Refusal> {
+        let mut value = [0u8; MOST_ROOM];
+        let cleaned = entry.call(&self.inputs, &mut value[..rooms.first])?;
+        self.answers.put(b"done");
+        self.answers
+            .put_value(entry.form(), &value[..cleaned.length]);
+        self.answers.put_thrown_away(cleaned.counts);
+        Ok(())
+    }
+
+    // Answers a request for a terminal's next key.
+    fn answer_next_key(&mut self, length: KeyLength, rooms: Rooms) -> Result<(), Refusal> {
+        let mut key = [0u8; MOST_ROOM];
+        let mut serial = [0u8; MOST_ROOM];
+        length.call(&mut self.inputs, rooms, &mut key, &mut serial)?;
+        self.answers
+            .put_next_key(&key[..length.size()], &serial[..10], &self.inputs);
+        Ok(())
+    }
+
+    // Answers a self-test: done, or the number of the check that differs.
+    fn answer_self_test(&mut self) {
+        match cipher::self_test() {
+            Ok(()) => self.answers.put(b"done\n"),
+            Err(check) => self.answers.put_failed(check),
+        }
+    }
+
+    // Answers a request whose inputs were read.
+    fn answer(&mut self, request: Request, rooms: Rooms) -> Result<(), Refusal> {
+        match request {
+            Request::Value(entry) => self.answer_value(entry, rooms),
+            Request::Text(entry) => self.answer_text(entry, rooms),
+            Request::NextKey(length) => self.answer_next_key(length, rooms),
+            Request::SelfTest => {
+                self.answer_self_test();
+                Ok(())
+            }
+        }
+    }
+
+    // Answers a request: NAME@ROOM/LABEL, of which the last two may be left out, and its inputs.
+    fn answer_request(&mut self, line: &[u8]) -> Result<(), Fault> {
+        let (head, inputs) = cut(line, b' ');
+        let (head, _label) = cut(head, b'/');
+        let (name, room) = cut(head, b'@');
+        let (request, usage) = request_named(name).ok_or(Fault::NoName)?;
+        let rooms = match room {
+            None => Rooms::all(),
+            Some(_) if request == Request::SelfTest => return Err(Fault::NoValue),
+            Some(room) => Rooms::said(room, matches!(request, Request::NextKey(_)))?,
+        };
+        self.inputs.read(usage, inputs)?;
+        if let Err(why) = self.answer(request, rooms) {
+            self.answers.put_refused(why);
+        }
+        Ok(())
+    }
+
+    // Answers a line: nothing for an empty one and for a comment.
+    pub(crate) fn answer_line(&mut self, line: &[u8]) {
+        let answered = match line {
+            [] => Ok(()),
+            _ if MOST_LINE < line.len() => Err(Fault::TooLong),
+            [b'#', ..] => Ok(()),
+            b"help" => {
+                self.answers.put(self.help);
+                Ok(())
+            }
+            _ => self.answer_request(line),
+        };
+        if let Err(fault) = answered {
+            self.answers.put_unknown(fault);
+        }
+    }
+
+    // Answers a line that is too long, of which only the first part was read.
+    pub(crate) fn answer_too_long(&mut self) {
+        self.answers.put_unknown(Fault::TooLong);
+    }
+
+    // Makes room for an answer, by writing those before it.
+    pub(crate) fn make_room(&mut self) -> Result<(), Told> {
+        self.answers.make_room(&mut self.console)
+    }
+
+    // Writes the answers.
+    pub(crate) fn flush(&mut self) -> Result<(), Told> {
+        self.answers.flush(&mut self.console)
     }
 }

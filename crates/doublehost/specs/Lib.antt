@@ -1,1 +1,2 @@
 pub mod DoubleLength
+pub mod Laws

@@ -1,44 +1,39 @@
 // Keys of sixteen bytes.
-ghost use Rattle.std.specs.Prelude.{◌≡◌, true, ◌↔◌};
-ghost use Rattle.doublehost.specs.DoubleLength.{key_of, key_bytes, no_key};
+ghost use Rattle.std.specs.Prelude.{◌≡◌};
+ghost use Rattle.doublehost.specs.DoubleLength;
+
+// The mask.
+const MASK: u64 = 0xC0C0_C0C0_0000_0000;
 
 // A key by its halves.
-#[derive(Clone, Copy)]
+#[derive(Clone, Copy, PartialEq, Eq)]
 pub struct DoubleKey {
     pub left: u64,
     pub right: u64,
 }
 
-// The key that sixteen bytes are; past the end stand zeros.
-pub fn key_of(bytes: &[u8]) -> DoubleKey
-    ensures { result ≡ key_of bytes.now }
-{
-    DoubleKey {
-        left: lent::word_of(bytes),
-        right: lent::right_half(bytes),
+impl DoubleKey {
+    // The key with the mask exclusive-or'd into both halves.
+    pub(crate) fn masked(self) -> DoubleKey
+        ensures { result ≡ DoubleLength.masked self }
+    {
+        DoubleKey {
+            left: self.left ^ MASK,
+            right: self.right ^ MASK,
+        }
     }
-}
 
-// The sixteen bytes of a key.
-pub fn bytes_of(key: DoubleKey) -> [u8; 16]
-    ensures { result ≡ key_bytes key }
-{
-    lent::double_bytes_of(key.left, key.right)
-}
-
-// What an empty register holds.
-pub fn no_key() -> DoubleKey
-    ensures { result ≡ no_key }
-{
-    DoubleKey { left: 0, right: 0 }
-}
-
-// Whether a key is what an empty register holds.
-pub fn is_empty(key: DoubleKey) -> bool
-    ensures { (result ≡ true) ↔ (key ≡ no_key) }
-{
-    if key.left != 0 {
-        return false;
+    // Triple DES of a block under the two halves.
+    pub(crate) fn tripled(self, block: u64) -> u64
+        ensures { result ≡ DoubleLength.tripled self block }
+    {
+        cipher::triple_encrypt(self.left, self.right, block)
     }
-    key.right == 0
+
+    // 002's step under the left half, with the right half exclusive-or'd in and out.
+    pub(crate) fn stepped(self, block: u64) -> u64
+        ensures { result ≡ DoubleLength.stepped self block }
+    {
+        host::step(self.left, self.right, block)
+    }
 }

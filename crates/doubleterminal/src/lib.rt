@@ -1,11 +1,8 @@
-// A DUKPT terminal, double length (01, Terminal keys; 02, M-105): its record, loading, and the call for its next key.
+// A DUKPT terminal of double length (02, M-105): the terminal with keys of sixteen bytes. What its loading and its call for the next key promise
+// stands with `terminal::Terminal`; demand 3 of it stands in proofs/.
 #![tactic(auto)]
 
-mod calls;
-mod filling;
-mod loading;
-mod state;
+use doublehost::DoubleKey;
 
-pub use calls::{NextKey, next_key};
-pub use loading::{Loaded, load};
-pub use state::Terminal;
+// The record: twenty-one registers of sixteen bytes.
+pub type Terminal = terminal::Terminal<DoubleKey>;

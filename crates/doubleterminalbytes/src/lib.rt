@@ -1,7 +1,3 @@
-// A terminal of double length whose record is 355 lent bytes (include/chizuregwo.h): its loading, and the call for its next key.
+// A terminal of double length whose record is 355 lent bytes (include/chizuregwo.h): the calls of `terminalbytes` with keys of sixteen bytes. Demand 3
+// of them stands in proofs/.
 #![tactic(auto)]
-
-mod calls;
-mod record;
-
-pub use calls::{load, next_key};

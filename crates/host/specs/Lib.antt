@@ -1,1 +1,2 @@
 pub mod SingleLength
+pub mod Laws

@@ -1,18 +1,22 @@
--- Only contracts of private functions cite these: the change of a word in each direction.
-use Rattle.std.specs.Prelude.{Bool, List, ℕ}
+-- Only contracts of private functions cite these: a key, and what it makes of a word.
+use Rattle.std.specs.Prelude.{List, ℕ, eqb, length}
 use Rattle.lent.specs.Choice.{pick}
+use Rattle.lent.specs.Words.{left, right}
 use Rattle.cipher.specs.Des.{encrypted, decrypted}
 use Rattle.cipher.specs.Triple.{triple_encrypted, triple_decrypted}
-use Rattle.keyed.specs.Keyed.{encrypted_under, decrypted_under}
-use Rattle.keyed.specs.declared.Direction.{Direction}
-use Rattle.keyed.specs.declared.Direction.TheVariants.{Encrypting, Decrypting}
+use Rattle.keyed.specs.declared.Key.{Key}
+use Rattle.keyed.specs.declared.Key.TheVariants.{Single, Double}
 
--- by DES under the left key alone, or by triple DES under both
-abbrev pub changed_by : Direction → Bool → ℕ → ℕ → ℕ → ℕ
-changed_by Encrypting single left right x = pick single (encrypted left x) (triple_encrypted left right x)
-changed_by Decrypting single left right x = pick single (decrypted left x) (triple_decrypted left right x)
+-- the key that 8 or 16 bytes stand for
+abbrev pub key_of : List ℕ → Key
+key_of bytes = pick (eqb (length bytes) 8) (Single (left bytes)) (Double (left bytes) (right bytes))
 
--- under the bytes of a key
-abbrev pub changed_under : Direction → List ℕ → ℕ → ℕ
-changed_under Encrypting = encrypted_under
-changed_under Decrypting = decrypted_under
+-- a word encrypted
+abbrev pub encrypted_by : Key → ℕ → ℕ
+encrypted_by (Single key) x = encrypted key x
+encrypted_by (Double left right) x = triple_encrypted left right x
+
+-- a word decrypted
+abbrev pub decrypted_by : Key → ℕ → ℕ
+decrypted_by (Single key) x = decrypted key x
+decrypted_by (Double left right) x = triple_decrypted left right x

@@ -2,70 +2,88 @@
 #![tactic(auto)]
 
 ghost use Rattle.std.specs.Prelude.{◌≡◌};
-ghost use Rattle.lent.specs.Result.{Answered};
-ghost use Rattle.keyed.specs.Keyed.{key_size, changed_block, encrypt_block, decrypt_block};
-ghost use Rattle.keyed.specs.Private.{changed_by, changed_under};
+ghost use Rattle.lent.specs.Refusals.{size};
+ghost use Rattle.lent.specs.Result.{done, require};
+ghost use Rattle.lent.specs.Words.{word};
+ghost use Rattle.keyed.specs.Keyed.{key_size, block_size, encrypt_block, decrypt_block};
+ghost use Rattle.keyed.specs.Private.{key_of, encrypted_by, decrypted_by};
 
-// The two directions of the cipher.
-#[derive(Drop)]
-enum Direction {
-    Encrypting,
-    Decrypting,
+use lent::Refusal;
+
+// A key: of 8 bytes, for DES, or of 16, for triple DES under a left and a right one.
+#[derive(Clone, Copy)]
+enum Key {
+    Single(u64),
+    Double(u64, u64),
+}
+
+impl TryFrom<&[u8]> for Key {
+    type Error = Refusal;
+
+    ghost try_from_gives = { λ bytes key. key ≡ require (key_size bytes.now) size (done (key_of bytes.now)) };
+
+    fn try_from(bytes: &[u8]) -> Result<Key, Refusal> {
+        match bytes.len() {
+            8 => Ok(Key::Single(lent::word_of(bytes))),
+            16 => Ok(Key::Double(lent::word_of(bytes), lent::right_half(bytes))),
+            _ => Err(Refusal::Size),
+        }
+    }
+}
+
+impl Key {
+    // A word encrypted.
+    fn encrypt(self, x: u64) -> u64
+        ensures { result ≡ encrypted_by self x }
+    {
+        match self {
+            Key::Single(key) => cipher::encrypt(key, x),
+            Key::Double(left, right) => cipher::triple_encrypt(left, right, x),
+        }
+    }
+
+    // A word decrypted.
+    fn decrypt(self, x: u64) -> u64
+        ensures { result ≡ decrypted_by self x }
+    {
+        match self {
+            Key::Single(key) => cipher::decrypt(key, x),
+            Key::Double(left, right) => cipher::triple_decrypt(left, right, x),
+        }
+    }
 }
 
 // Whether a key has 8 or 16 bytes.
 pub fn key_sized(key: &[u8]) -> bool
     ensures { result ≡ key_size key.now }
 {
-    lent::key_size(key.len())
+    Key::try_from(key).is_ok()
 }
 
-// A word encrypted or decrypted: by DES under the left key alone, or by triple DES under both.
-fn changed_word(direction: Direction, single: bool, left: u64, right: u64, x: u64) -> u64
-    ensures { result ≡ changed_by direction single left right x }
-{
-    match direction {
-        Direction::Encrypting => {
-            if single {
-                return cipher::encrypt(left, x);
-            }
-            cipher::triple_encrypt(left, right, x)
-        }
-        Direction::Decrypting => {
-            if single {
-                return cipher::decrypt(left, x);
-            }
-            cipher::triple_decrypt(left, right, x)
-        }
-    }
-}
-
-// A block encrypted or decrypted under a key. Refuses with 6 if the block does not have 8 bytes or the key 8 or 16.
-fn changed_block(direction: Direction, key: &[u8], block: &[u8]) -> lent::Block
-    ensures { Answered 8 (changed_block (changed_under direction) key.now block.now) result.number result.value }
+// The word of a block. Refuses with 6 if it does not have 8 bytes.
+pub fn block_word(block: &[u8]) -> Result<u64, Refusal>
+    ensures { result ≡ require (block_size block.now) size (done (word block.now)) }
 {
     if block.len() != 8 {
-        return lent::refused_block(lent::SIZE);
+        return Err(Refusal::Size);
     }
-    if !key_sized(key) {
-        return lent::refused_block(lent::SIZE);
-    }
-    let single = key.len() == 8;
-    let left = lent::word_of(key);
-    let right = lent::right_half(key);
-    lent::block_of(changed_word(direction, single, left, right, lent::word_of(block)))
+    Ok(lent::word_of(block))
 }
 
+// The two directions differ in one word: a parameter for it would be no plainer.
+
 // A block encrypted under a key. Refuses with 6 if the block does not have 8 bytes or the key 8 or 16.
-pub fn encrypt_block(key: &[u8], block: &[u8]) -> lent::Block
-    ensures { Answered 8 (encrypt_block key.now block.now) result.number result.value }
+pub fn encrypt_block(key: &[u8], block: &[u8]) -> Result<[u8; 8], Refusal>
+    ensures { result ≡ encrypt_block key.now block.now }
 {
-    changed_block(Direction::Encrypting, key, block)
+    let x = block_word(block)?;
+    Ok(lent::bytes_of(Key::try_from(key)?.encrypt(x)))
 }
 
 // A block decrypted under a key. Refuses with 6 if the block does not have 8 bytes or the key 8 or 16.
-pub fn decrypt_block(key: &[u8], block: &[u8]) -> lent::Block
-    ensures { Answered 8 (decrypt_block key.now block.now) result.number result.value }
+pub fn decrypt_block(key: &[u8], block: &[u8]) -> Result<[u8; 8], Refusal>
+    ensures { result ≡ decrypt_block key.now block.now }
 {
-    changed_block(Direction::Decrypting, key, block)
+    let x = block_word(block)?;
+    Ok(lent::bytes_of(Key::try_from(key)?.decrypt(x)))
 }

@@ -28,7 +28,7 @@ text_entered letter case key wanted b n s =
 pub record EnteredText (text key : List ℕ) (wanted : Bytes) : Type 0 where
   pub size : key_size wanted ≡ true
   pub count : length key ≡ wanted.0
-  pub text_of_lem : map capitalized text ≡ text_of 65 key
+  pub text_of_entered : map capitalized text ≡ text_of 65 key
 
 pub entered_text : (text key : List ℕ) (wanted : Bytes) → key_entry text wanted ≡ done key → EnteredText text key wanted
 entered_text text key wanted e =
@@ -37,5 +37,5 @@ entered_text text key wanted e =
     record {
       size = h.0;
       count = ap length (sym same) ∙ bytes_length text wanted.0 h.1;
-      text_of_lem = text_read text wanted.0 h.1 h.2 ∙ ap (text_of 65) same;
+      text_of_entered = text_read text wanted.0 h.1 h.2 ∙ ap (text_of 65) same;
     }

@@ -10,7 +10,7 @@ use lib.ListN.{length}
 use Rattle.lent.specs.Choice.{all}
 use Rattle.lent.specs.Characters.{hexadecimal}
 use Rattle.lent.specs.Refusals.{size, character}
-use Rattle.lent.specs.Result.{done, require}
+use Rattle.lent.specs.Result.{Result, done, require}
 use Rattle.lent.proofs.Results.{require_done}
 use Rattle.keyentry.specs.Hexadecimal.{bytes_of}
 use Rattle.keyentry.specs.KeyEntry.{text_bytes, key_size, full_text, key_entry}
@@ -22,7 +22,7 @@ module _ (text : List ℕ) where
   decoded o h = simp (o, h)
 
   -- a text that is not refused passes both tests
-  pub decodes : {key : List ℕ} → text_bytes text ≡ done key → (all hexadecimal text ≡ true) × (done (bytes_of text) ≡ done key)
+  pub decodes : {key : List ℕ} → text_bytes text ≡ done key → (all hexadecimal text ≡ true) × (◌≡◌ {A = Result (List ℕ)} (done (bytes_of text)) (done key))
   unfolding text_bytes
   decodes {key} e =
       require_done (all hexadecimal text) character (done (bytes_of text)) key
@@ -35,7 +35,7 @@ module _ (text : List ℕ) (wanted : Bytes) where
 
   -- a text that is not refused passes all three tests
   pub passes : {key : List ℕ} → key_entry text wanted ≡ done key
-      → (key_size wanted ≡ true) × (length text ≡ 2 * wanted.0) × (all hexadecimal text ≡ true) × (done (bytes_of text) ≡ done key)
+      → (key_size wanted ≡ true) × (length text ≡ 2 * wanted.0) × (all hexadecimal text ≡ true) × (◌≡◌ {A = Result (List ℕ)} (done (bytes_of text)) (done key))
   unfolding key_entry
   passes {key} e =
       let s = require_done (key_size wanted) size (require (full_text text wanted) size (text_bytes text)) key e in

@@ -1,10 +1,9 @@
 -- Only the contract of a private function cites this: bytes doubled into digits.
-use Rattle.std.specs.Prelude.{◌*◌, ◌^◌, ltb}
+use Rattle.std.specs.Prelude.{Option, Some, None, ◌*◌, ◌^◌, ltb}
 use Rattle.lent.specs.Choice.{pick}
 use Rattle.keyentry.specs.declared.units.Bytes.{Bytes}
-use Rattle.keyentry.specs.declared.units.Doubling.{Doubling}
-use Rattle.keyentry.specs.declared.units.Doubling.TheVariants.{Fits, TooLarge}
+use Rattle.keyentry.specs.declared.units.Digits.{Digits}
 
 -- two digits for each byte, where a usize can count them
-unfoldable pub doubled : Bytes → Doubling
-doubled size = pick (ltb (2 * size.0) (2 ^ 64)) (Fits (record { 0 = 2 * size.0 })) TooLarge
+unfoldable pub doubled : Bytes → Option Digits
+doubled size = pick (ltb (2 * size.0) (2 ^ 64)) (Some (record { 0 = 2 * size.0 })) None

@@ -4,7 +4,7 @@ use Rattle.lent.specs.Choice.{all}
 use Rattle.lent.specs.Characters.{hexadecimal}
 use Rattle.lent.specs.Keys.{key_sizes}
 use Rattle.lent.specs.Refusals.{size, character}
-use Rattle.lent.specs.Result.{Result, done, require}
+use Rattle.lent.specs.Result.{Result, done, refused, require}
 use Rattle.keyentry.specs.Hexadecimal.{bytes_of}
 use Rattle.keyentry.specs.declared.units.Bytes.{Bytes}
 
@@ -26,3 +26,8 @@ key_entry text wanted =
     require (key_size wanted) size
     (require (full_text text wanted) size
     (text_bytes text))
+
+-- how many bytes were written; a refusal stays
+abbrev pub bytes_written : Result Bytes → Result ℕ
+bytes_written (done wanted) = done wanted.0
+bytes_written (refused why) = refused why

@@ -2,12 +2,13 @@
 ghost use Rattle.std.specs.Prelude.{◌≡◌, true, ◌+◌, ◌*◌, ◌≤◌, length, get_or};
 ghost use Rattle.lent.specs.Choice.{all};
 ghost use Rattle.lent.specs.Characters.{hexadecimal};
-ghost use Rattle.lent.specs.Result.{Written, done, over};
+ghost use Rattle.lent.specs.Result.{Writes, over};
 ghost use Rattle.keyentry.specs.Hexadecimal.{value_of, bytes_of};
 ghost use Rattle.keyentry.specs.KeyEntry.{text_bytes};
 
 use crate::hexadecimal::value_of;
-use crate::units::{Bytes, Doubling, digits_of};
+use crate::units::{Bytes, Digits};
+use lent::{Kind, Refusal};
 
 // The byte whose two digits stand in the text at its place.
 fn byte_of(text: &[u8], place: Bytes) -> u8
@@ -15,10 +16,7 @@ fn byte_of(text: &[u8], place: Bytes) -> u8
     requires all_hexadecimal { all hexadecimal text.now ≡ true }
     ensures { result ≡ value_of (get_or text.now (2 * place.0) 0) * 16 + value_of (get_or text.now (2 * place.0 + 1) 0) }
 {
-    let Doubling::Fits(first) = digits_of(place) else {
-        return 0;
-    };
-    let at = first.0;
+    let Digits(at) = place.digits().unwrap();
     value_of(text[at]) * 16 + value_of(text[at + 1])
 }
 
@@ -29,41 +27,26 @@ fn put_bytes(text: &[u8], size: Bytes, out: &mut [u8])
     requires size_in_bounds { size.0 ≤ length out.old }
     ensures { out.new ≡ over (bytes_of text.now) out.old }
 {
-    let bytes = size.0;
-    let mut i: usize = 0;
-    while i < bytes {
-        out[i] = byte_of(text, Bytes(i));
-        i += 1;
-    }
-}
-
-// Writes the bytes of a text into lent memory. Refuses with 13 if the memory is shorter.
-fn lend_bytes(text: &[u8], size: Bytes, out: &mut [u8]) -> lent::Answer
-    requires text_len { length text.now ≡ 2 * size.0 }
-    requires all_hexadecimal { all hexadecimal text.now ≡ true }
-    ensures { Written (done (bytes_of text.now)) out.old result.number result.length out.new }
-{
-    let bytes = size.0;
-    if bytes > out.len() {
-        return lent::refused(lent::SHORT_BUFFER);
-    }
-    put_bytes(text, size, out);
-    lent::Answer {
-        number: lent::DONE,
-        length: bytes,
+    for (i, byte) in out[..size.0].iter_mut().enumerate() {
+        *byte = byte_of(text, Bytes(i));
     }
 }
 
 // Writes the bytes of a text of any size. Refuses with 6 if it does not have two digits for each byte, 7 if a character is not hexadecimal, 13 if the
 // buffer is shorter than the bytes.
-pub fn text_bytes(text: &[u8], out: &mut [u8]) -> lent::Answer
-    ensures { Written (text_bytes text.now) out.old result.number result.length out.new }
+pub fn text_bytes(text: &[u8], out: &mut [u8]) -> Result<usize, Refusal>
+    ensures { Writes (text_bytes text.now) out.old result out.new }
 {
     if text.len() % 2 != 0 {
-        return lent::refused(lent::SIZE);
+        return Err(Refusal::Size);
     }
-    if !lent::all_of_kind(lent::Kind::HexadecimalDigits, text) {
-        return lent::refused(lent::CHARACTER);
+    if !lent::all_of_kind(Kind::HexadecimalDigits, text) {
+        return Err(Refusal::Character);
     }
-    lend_bytes(text, Bytes(text.len() / 2), out)
+    let size = Bytes(text.len() / 2);
+    if out.len() < size.0 {
+        return Err(Refusal::ShortBuffer);
+    }
+    put_bytes(text, size, out);
+    Ok(size.0)
 }

@@ -1,12 +1,13 @@
-// The hexadecimal text of bytes.
+// The hexadecimal text of bytes, in memory that the caller lends: there is no heap.
 ghost use Rattle.std.specs.Prelude.{◌+◌, ◌*◌, ◌≤◌, length};
 ghost use Rattle.lent.specs.Appending.{appending};
 ghost use Rattle.lent.specs.Private.{Appended};
-ghost use Rattle.lent.specs.Result.{Written};
+ghost use Rattle.lent.specs.Result.{Writes};
 ghost use Rattle.keyentry.specs.Hexadecimal.{text_of};
 
 use crate::hexadecimal::byte_text;
-use crate::units::{Bytes, Doubling, digits_of};
+use crate::units::Bytes;
+use lent::Refusal;
 
 // Writes the text of bytes after the first n bytes of memory that has room for it, and gives how many there are then.
 fn put_text(out: &mut [u8], n: usize, bytes: &[u8]) -> usize
@@ -14,32 +15,22 @@ fn put_text(out: &mut [u8], n: usize, bytes: &[u8]) -> usize
     ensures { Appended (text_of 65 bytes.now) out.old out.new n result }
 {
     let mut end = n;
-    let mut i: usize = 0;
-    while i < bytes.len() {
-        let digits = byte_text(bytes[i]);
-        let written = lent::append(out, end, &digits);
-        end = written.length;
-        i += 1;
+    for b in bytes {
+        end = lent::append(out, end, &byte_text(*b)).unwrap();
     }
     end
 }
 
 // Writes the text of bytes, in capitals, into lent memory after its first n bytes, and answers how many there are then. Refuses with 13 if the memory is
 // shorter.
-pub fn append_text(out: &mut [u8], n: usize, bytes: &[u8]) -> lent::Answer
-    ensures { Written (appending (text_of 65 bytes.now) out.old n) out.old result.number result.length out.new }
+pub fn append_text(out: &mut [u8], n: usize, bytes: &[u8]) -> Result<usize, Refusal>
+    ensures { Writes (appending (text_of 65 bytes.now) out.old n) out.old result out.new }
 {
-    let Doubling::Fits(digits) = digits_of(Bytes(bytes.len())) else {
-        return lent::refused(lent::SHORT_BUFFER);
+    let Some(digits) = Bytes(bytes.len()).digits() else {
+        return Err(Refusal::ShortBuffer);
     };
-    if out.len() < n {
-        return lent::refused(lent::SHORT_BUFFER);
+    if out.len() < n || out.len() - n < digits.0 {
+        return Err(Refusal::ShortBuffer);
     }
-    if out.len() - n < digits.0 {
-        return lent::refused(lent::SHORT_BUFFER);
-    }
-    lent::Answer {
-        number: lent::DONE,
-        length: put_text(out, n, bytes),
-    }
+    Ok(put_text(out, n, bytes))
 }

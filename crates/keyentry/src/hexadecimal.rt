@@ -6,12 +6,14 @@ ghost use Rattle.keyentry.specs.Hexadecimal.{value_of, hexadecimal_digit, text_o
 // The value of a hexadecimal digit.
 pub(crate) fn value_of(x: u8) -> u8
     requires { hexadecimal x ≡ true }
-    ensures { (result ≡ value_of x) × (result < 16) }
+    ensures value { result ≡ value_of x }
+    ensures bound { result < 16 }
 {
     if lent::is_digit(x) {
-        return x - b'0';
+        x - b'0'
+    } else {
+        lent::capitalized(x) - b'A' + 10
     }
-    lent::capitalized(x) - 55
 }
 
 // The digit of a value below 16, in capitals.
@@ -19,10 +21,7 @@ fn digit_of(n: u8) -> u8
     requires { n < 16 }
     ensures { result ≡ hexadecimal_digit 65 n }
 {
-    if n < 10 {
-        return n + b'0';
-    }
-    b'A' + (n - 10)
+    if n < 10 { b'0' + n } else { b'A' + (n - 10) }
 }
 
 // The hexadecimal text of a byte, in capitals.

@@ -9,5 +9,5 @@ mod units;
 
 pub use decoding::text_bytes;
 pub use encoding::append_text;
-pub use entry::{Entered, key_entry};
+pub use entry::key_entry;
 pub use units::Bytes;

@@ -1,31 +1,30 @@
 -- Laws on a value that is written after other bytes.
 use borrow.Author.Tests.{le-leb, lt-leb, leb-true}
-use mathlib.Core.Path.{◌≡◌, refl, ◌∙◌}
+use mathlib.Core.Path.{◌≡◌, sym, ◌∙◌}
 use mathlib.Core.Bool.{false}
 use mathlib.Core.List.{List, [], ◌++◌, append_assoc, append-nil}
-use Prim.Native.Nat.{ℕ, ◌+◌, ◌-◌, ◌<◌, ◌≤◌}
+use Prim.Native.Nat.{ℕ, ◌+◌, ◌<◌, ◌≤◌}
 use native.Mathlib.Nat.{add-zero}
 use native.Mathlib.Omega.{arith}
 use lib.Dec.{leb}
-use lib.ListN.{length, take, drop, length-append, length-drop, take-append-drop, drop_of_length-le}
+use lib.ListN.{length, take, drop, length-append, length-drop, take-append-drop}
 use lib.Seq.{take_at, drop-append-add, drop-drop, length-take-le}
 use Rattle.lent.specs.Appending.{appending}
 use Rattle.lent.specs.Private.{Appended, Appends}
-use Rattle.lent.specs.Refusals.{number_of, short_buffer}
-use Rattle.lent.specs.Result.{done, lend, over, Written}
+use Rattle.lent.specs.Refusals.{short_buffer}
+use Rattle.lent.specs.Result.{Result, done, refused, lend, Written, Writes}
 use Rattle.lent.proofs.Laws.{cases}
-use Rattle.lent.proofs.Lists.{part_rest}
-use Rattle.lent.proofs.Results.{Refuses}
+use Rattle.lent.proofs.Results.{same_done}
 
 module _ (v s : List ℕ) (n : ℕ) where
   pub front_length : n ≤ length s → length (take n s ++ v) ≡ n + length v
   front_length h = rw (length-append, length-take-le n s h)
 
   -- memory that is too short for the value
-  pub no_room : length s < n + length v → Refuses (number_of short_buffer) (lend (length s) (appending v s n))
-  no_room h =
+  pub too_short : length s < n + length v → lend (length s) (appending v s n) ≡ refused short_buffer
+  too_short h =
       let few : n ≤ length s → leb (length (take n s ++ v)) (length s) ≡ false = λ k. lt-leb (length (take n s ++ v)) (length s) (rw (front_length k) h) in
-      (short_buffer, refl, cases (leb n (length s)) (λ t. simp (t, few (leb-true _ _ t))) (λ f. simp f))
+      cases (leb n (length s)) (λ t. simp (t, few (leb-true _ _ t))) (λ f. simp f)
 
   module _ (room : n + length v ≤ length s) where
     front : length (take n s ++ v) ≡ n + length v
@@ -34,19 +33,19 @@ module _ (v s : List ℕ) (n : ℕ) where
     with_room : lend (length s) (appending v s n) ≡ done (take n s ++ v)
     with_room = simp (le-leb n (length s) (omega arith), le-leb (length (take n s ++ v)) (length s) (rw front room))
 
-    -- where there is room, the value is appended, and what appends it keeps the promise of `append`
+    -- where there is room, the value is appended
     pub appended : {after : List ℕ} {num len : ℕ} → Written (appending v s n) s num len after → Appended v s after n len
     appended w = record { end = rw with_room at w.value ∙ front; memory = rw with_room at w.memory ∙ rw front }
 
-    pub written_appended : {after : List ℕ} {r : ℕ} → Appended v s after n r → Written (appending v s n) s 0 r after
-    written_appended a = record { number = rw with_room; value = rw (with_room, front) a.end; memory = rw (with_room, front) a.memory }
+    -- the same of a function that gives a result, which is no refusal there
+    pub appends_done : {after : List ℕ} {r : Result ℕ} → Writes (appending v s n) s r after → r ≡ done (n + length v)
+    appends_done w = rw (with_room, front) at w.value
 
--- a value that is copied to the start of what stands after the first n bytes
-pub copied_after : (v s : List ℕ) (n : ℕ) → n + length v ≤ length s
-    → take n s ++ (over v (take (length s - n) (drop n s)) ++ drop (length s - n) (drop n s)) ≡ over (take n s ++ v) s
-copied_after v s n room =
-    let none : drop (length s - n) (drop n s) ≡ [] = drop_of_length-le (drop n s) {i = length s - n} (rw (length-drop n s) (omega arith)) in
-    rw (none, part_rest n s, append-nil, drop-drop (length v) n s, front_length v s n (omega arith), append_assoc (take n s) v (drop (n + length v) s))
+    pub appends_result : {after : List ℕ} {r : Result ℕ} {k : ℕ} → Writes (appending v s n) s r after → r ≡ done k → Appended v s after n k
+    appends_result w e = record { end = same_done (sym e ∙ appends_done w); memory = rw with_room at w.memory ∙ rw front }
+
+    pub writes_appended : {after : List ℕ} {r : ℕ} → Appended v s after n r → Writes (appending v s n) s (done r) after
+    writes_appended a = record { value = rw (with_room, front, a.end); memory = rw (with_room, front) a.memory }
 
 -- Where there is room for it.
 module _ {value before after : List ℕ} {n r : ℕ} (a : Appended value before after n r) (room : n + length value ≤ length before) where

@@ -2,14 +2,15 @@
 use borrow.Author.Tests.{lt-ltb}
 use mathlib.Core.Path.{◌≡◌, sym, ◌∙◌}
 use mathlib.Core.Bool.{Bool, true}
-use mathlib.Core.List.{List, [], ◌∷◌, ◌++◌, map, map-append, append_assoc}
+use mathlib.Core.List.{List, [], ◌∷◌, ◌++◌, map, append_assoc, append-nil}
 use Prim.Native.Nat.{ℕ, suc, ◌+◌, ◌-◌, ◌*◌, ◌%◌, ◌^◌, ◌<◌, ◌≤◌}
 use native.Mathlib.Nat.{mod-eq_of_lt}
 use native.Mathlib.Numerals.{add-one}
 use native.Mathlib.Omega.{arith}
 use lib.Dec.{ltb, lit<}
-use lib.ListN.{length, get_or, take, length-append}
-use lib.Seq.{get_or-append_seam, take-suc}
+use lib.ListN.{length, length-append}
+use lib.Seq.{get_or-append_seam}
+use Rattle.std.specs.List.{fold}
 use Rattle.lent.specs.Characters.{digit, digit_value}
 use Rattle.lent.specs.Choice.{all}
 use Rattle.lent.specs.HalfBytes.{low_half, word_of}
@@ -52,8 +53,10 @@ one_more s h =
     let more : length (s ++ h ∷ []) ≡ suc (length s) = length-append s (h ∷ []) ∙ add-one (length s) in
     rw (more, from_front 16 (length s) s (h ∷ []) (omega arith), get_or-append_seam s h [] 0) (omega arith)
 
--- with one more character of a text
-pub character_more : (s text : List ℕ) (i : ℕ) → i < length text
-    → word_of (s ++ map low_half (take (i + 1) text)) ≡ (word_of (s ++ map low_half (take i text)) * 16 + get_or text i 0 % 16) % 2 ^ 64
-character_more s text i h =
-    rw (add-one i, take-suc text i 0 h, map-append, ← append_assoc) (one_more (s ++ map low_half (take i text)) (get_or text i 0 % 16))
+-- with those of a text, one character after the other
+pub folded : (text : List ℕ) (x : ℕ) (first : List ℕ) → x ≡ word_of first
+    → fold (λ word h. (word * 16 + h % 16) % 2 ^ 64) x text ≡ word_of (first ++ map low_half text)
+folded [] x first e = rw append-nil e
+folded (h ∷ text) x first e =
+    rw (← append_assoc first (h % 16 ∷ []) (map low_half text))
+    (folded text ((x * 16 + h % 16) % 2 ^ 64) (first ++ h % 16 ∷ []) (rw e (sym (one_more first (h % 16)))))

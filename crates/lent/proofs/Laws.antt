@@ -8,7 +8,7 @@ use native.Mathlib.Nat.{add-zero, zero-add, add-suc, suc-add, not-suc-le-zero, l
 use native.Mathlib.Numerals.{add-one}
 use native.Mathlib.Omega.{arith}
 use lib.Dec.{leb}
-use lib.ListN.{length, get_or, drop, drop_of_length-le}
+use lib.ListN.{length, get_or, drop}
 use lib.Seq.{drop-cons}
 use Rattle.lent.specs.Choice.{both, either, between, all}
 
@@ -55,18 +55,6 @@ pub all_at : (p : ℕ → Bool) (s : List ℕ) (i : ℕ) → all p s ≡ true �
 all_at p [] i e h = absurd (not-suc-le-zero h)
 all_at p (x ∷ s) zero e h = (both_true (p x) (all p s) e).0
 all_at p (x ∷ s) (suc i) e h = all_at p s i (both_true (p x) (all p s) e).1 (le_of_suc-le-suc h)
-
--- A test of every element, in a loop at place i whose answer t is that of the elements from there on: the loop ends with false at an element that
--- fails, goes on past one that passes, and ends with true past the last.
-module _ (p : ℕ → Bool) (s : List ℕ) (i : ℕ) {t : Bool} (e : all p (drop i s) ≡ t) where
-  pub all_fails : i < length s → p (get_or s i 0) ≡ false → false ≡ t
-  all_fails h f = simp f at (rw (drop_next s i h) at e)
-
-  pub all_passes : i < length s → p (get_or s i 0) ≡ true → all p (drop (i + 1) s) ≡ t
-  all_passes h f = simp f at (rw (drop_next s i h) at e)
-
-  pub all_ends : length s ≤ i → true ≡ t
-  all_ends h = rw (drop_of_length-le s h) at e
 
 -- the test holds of every number from k on, n of them
 unfoldable pub holds_from : (ℕ → Bool) → ℕ → ℕ → Bool

@@ -9,3 +9,4 @@ pub mod Prefixes
 pub mod Frames
 pub mod ReadsBack
 pub mod Decisions
+pub mod Library

@@ -1,21 +1,17 @@
 -- Laws on lists: parts, repeated elements, and tests that every element passes.
 use borrow.Author.Tests.{ltb-true, ltb-false}
-use mathlib.Core.Path.{◌≡◌, refl, sym, ◌∙◌}
+use mathlib.Core.Path.{◌≡◌, refl}
 use mathlib.Core.Bool.{Bool, true}
 use mathlib.Core.List.{List, [], ◌∷◌, ◌++◌, map, map-id}
 use Prim.Native.Nat.{ℕ, zero, suc, ◌-◌, ◌<◌, ◌≤◌}
 use native.Mathlib.Nat.{sub-zero, zero-sub, suc-sub-suc, le_of_suc-le-suc}
 use native.Mathlib.Omega.{arith}
 use lib.Dec.{ltb}
-use lib.ListN.{length, get_or, take, drop, replicate, length-map, length-drop, get_or-eq_default}
+use lib.ListN.{length, get_or, take, drop, replicate, length-drop, get_or-eq_default}
 use lib.Seq.{take_all}
 use Rattle.lent.specs.Choice.{both, all}
 use Rattle.lent.proofs.Laws.{cases, both_true, all_at}
 use Rattle.lent.proofs.Bases.{Digits}
-
--- a list has as many elements as what is made of them, one of each
-pub length_mapped : (A B : Type 0) (f : A → B) (s : List A) (n : ℕ) → length (map f s) ≡ n → length s ≡ n
-length_mapped A B f s n e = sym (length-map s f) ∙ e
 
 -- ---- parts
 

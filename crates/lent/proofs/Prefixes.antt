@@ -1,36 +1,14 @@
--- Whether a text stands at the start of another, place by place, and whether it is the other.
-use borrow.Author.Tests.{eqb-true, eq-eqb, ne_eqb}
+-- Whether a text stands at the start of another, and whether it is the other.
+use borrow.Author.Tests.{eqb-true, eq-eqb}
 use mathlib.Core.Path.{◌≡◌, refl}
-use mathlib.Core.Bool.{true, false}
+use mathlib.Core.Bool.{true}
 use mathlib.Core.List.{List, [], ◌∷◌}
-use Prim.Native.Nat.{ℕ, ◌+◌, ◌≤◌, ◌<◌}
+use Prim.Native.Nat.{ℕ, ◌≤◌}
 use native.Mathlib.Omega.{arith}
 use lib.Dec.{eqb}
-use lib.ListN.{length, get_or, drop, drop_of_length-le}
-use Rattle.lent.proofs.Laws.{drop_next, both_true, never}
+use lib.ListN.{length}
+use Rattle.lent.proofs.Laws.{both_true, never}
 use Rattle.lent.specs.Texts.{starts_with, same}
-
-module _ (text s : List ℕ) (i : ℕ) where
-  -- the whole text was found
-  pub found : length text ≤ i → starts_with (drop i text) (drop i s) ≡ true
-  unfolding starts_with
-  found h = rw (drop_of_length-le text h)
-
-  -- the other has ended
-  pub too_short : i < length text → length s ≤ i → starts_with (drop i text) (drop i s) ≡ false
-  unfolding starts_with
-  too_short h k = rw (drop_next text i h, drop_of_length-le s k)
-
-  -- another character stands there
-  pub differs : i < length text → i < length s → (get_or s i 0 ≡ get_or text i 0 → ⊥) → starts_with (drop i text) (drop i s) ≡ false
-  unfolding starts_with
-  differs h k d = rw (drop_next text i h, drop_next s i k, ne_eqb (get_or s i 0) (get_or text i 0) d)
-
-  -- the same character stands there
-  pub goes_on : i < length text → i < length s → get_or s i 0 ≡ get_or text i 0
-      → starts_with (drop i text) (drop i s) ≡ starts_with (drop (i + 1) text) (drop (i + 1) s)
-  unfolding starts_with
-  goes_on h k e = rw (drop_next text i h, drop_next s i k, eq-eqb (get_or s i 0) (get_or text i 0) e)
 
 -- what starts with a text is as long as that, or longer
 pub starts_length : (text s : List ℕ) → starts_with text s ≡ true → length text ≤ length s

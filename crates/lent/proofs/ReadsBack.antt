@@ -1,20 +1,20 @@
 -- A block is read exactly when some permitted text makes it: once for every maker and reader.
-use borrow.Author.Tests.{eq-eqb, le-leb}
-use mathlib.Core.Path.{◌≡◌, refl, sym, ap, ◌∙◌}
-use mathlib.Core.Bool.{Bool, true, false}
+use borrow.Author.Tests.{eq-eqb}
+use mathlib.Core.Path.{◌≡◌, sym, ap, ◌∙◌}
+use mathlib.Core.Bool.{Bool, true}
 use mathlib.Core.List.{List}
 use Prim.Native.Nat.{ℕ}
-use native.Mathlib.Nat.{le_refl}
 use lib.Dec.{eqb}
 use lib.ListN.{length}
 use Rattle.lent.specs.Choice.{both, between, all}
 use Rattle.lent.specs.ReadsBack.{gives, if_made, Block, Makes, ReadsBack}
+use Rattle.lent.specs.Permitted.{permitted as tests}
 use Rattle.lent.specs.Refusals.{size, character, bad_block}
-use Rattle.lent.specs.Result.{Result, done, refused, require, lend, Written}
-use Rattle.lent.specs.Texts.{same}
+use Rattle.lent.specs.Result.{Result, done, refused, require}
+use Rattle.lent.specs.declared.refusals.Refusal.{Refusal}
 use Rattle.lent.proofs.Laws.{cases, never, both_true}
 use Rattle.lent.proofs.Prefixes.{same_true, same_self}
-use Rattle.lent.proofs.Results.{same_done, require_done, written_zero, written_refused, over_whole}
+use Rattle.lent.proofs.Results.{same_done, require_done}
 
 -- A maker of blocks of n bytes, and a reader that takes what stands in a block if that passes a test, which it does exactly if it is permitted
 -- and makes the block.
@@ -74,6 +74,22 @@ module _ (n least most : ℕ) (p : ℕ → Bool) (block_of : List ℕ → List �
   abbrev make : List ℕ → Result (List ℕ)
   make text = require (sized text) size (require (all p text) character (done (block_of text)))
 
+  -- a text that passes its tests, or whose refusal is theirs
+  pub passed : (text : List ℕ) → tests least most p text ≡ done tt → permitted text ≡ true
+  passed text e =
+      let s = require_done (sized text) size (require (all p text) character (done tt)) tt e in
+      let t = require_done (all p text) character (done tt) tt s.1 in
+      rw s.0 t.0
+
+  pub of_permitted : (text : List ℕ) → tests least most p text ≡ done tt → make text ≡ done (block_of text)
+  of_permitted text e = let b = both_true (sized text) (all p text) (passed text e) in simp (b.0, b.1)
+
+  pub of_refused : (text : List ℕ) (why : Refusal) → tests least most p text ≡ refused why → make text ≡ refused why
+  of_refused text why e =
+      cases (sized text)
+      (λ s. cases (all p text) (λ t. let k = simp (s, t) at e in never (cc)) (λ t. let k = simp (s, t) at e in simp (s, t) (cc)))
+      (λ s. let k = simp s at e in simp s (cc))
+
   maker : (text : List ℕ) → permitted text ≡ true → make text ≡ done (block_of text)
   maker text h = let b = both_true (sized text) (all p text) h in simp (b.0, b.1)
 
@@ -99,22 +115,3 @@ module _ (n least most : ℕ) (p : ℕ → Bool) (block_of : List ℕ → List �
           passes = λ text h. rw (maker text h) (same_self (block_of text));
           only = λ text block b t. made text block (given (make text) block t);
         })
-
-    -- What making wrote into memory of n bytes is held to a block.
-    module _ (text block : List ℕ) {before after : List ℕ} {num len : ℕ} (e : length before ≡ n) (w : Written (make text) before num len after) where
-      -- a value fills the memory
-      fills : (v : List ℕ) → make text ≡ done v → length v ≡ length before
-      fills v d = let m = made text v d in ap length (sym m.1) ∙ (is_block text m.0).size ∙ sym e
-
-      pub made_gives : num ≡ 0 → same after block ≡ gives (make text) block
-      made_gives z =
-          let k = written_zero w z in
-          ap (λ (s : List ℕ). same s block) (k.4 ∙ over_whole k.0 before (fills k.0 k.1))
-          ∙ ap (λ (r : Result (List ℕ)). gives r block) (sym k.1)
-
-      pub refused_gives : (num ≡ 0 → ⊥) → false ≡ gives (make text) block
-      refused_gives z = let k = written_refused w (room (make text) refl) z in rw k.2
-        where
-          room : (r : Result (List ℕ)) → make text ≡ r → lend (length before) (make text) ≡ make text
-          room (done v) d = rw (d, fills v d) (simp (le-leb _ _ (le_refl (length before))))
-          room (refused why) d = rw d

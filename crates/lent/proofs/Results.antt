@@ -1,39 +1,39 @@
 -- Laws on results, and on what a call left in lent memory.
-use borrow.Author.Tests.{le-leb, leb-true}
+use borrow.Author.Tests.{leb-true}
 use mathlib.Core.Path.{◌≡◌, refl, sym, ap, ◌∙◌}
 use mathlib.Core.Bool.{Bool, true, false}
 use mathlib.Core.List.{List, append-nil}
 use Prim.Native.Nat.{ℕ, ◌≤◌}
 use native.Mathlib.Omega.{arith}
 use lib.Dec.{leb}
-use lib.ListN.{length, take, drop, replicate, length-append, length-drop, drop_of_length-le}
+use lib.ListN.{length, take, drop, length-append, length-drop, drop_of_length-le}
 use lib.Seq.{take-append_seam}
 use Rattle.lent.proofs.Laws.{cases, never}
-use Rattle.lent.specs.Refusals.{Refusal, number_of, cut_short, field_order, message_type, field_form, empty_text, size, character, bad_block, equal_halves, bad_counter, bad_record, exhausted, short_buffer}
-use Rattle.lent.specs.Result.{Result, done, refused, number, require, and_then, bytes, lend, over, of_done, Answered, Written}
+use Rattle.lent.specs.Refusals.{number_of}
+use Rattle.lent.specs.declared.refusals.Refusal.{Refusal}
+use Rattle.lent.specs.declared.refusals.Refusal.TheVariants.{CutShort, FieldOrder, MessageType, FieldForm, EmptyText, Size, Character, BadBlock, EqualHalves, BadCounter, BadRecord, Exhausted, ShortBuffer}
+use Rattle.lent.specs.Result.{Result, done, refused, number, require, and_then, bytes, lend, over, of_done, answer_of, Answered, Writes, Written}
 use Rattle.lent.specs.declared.answers.Answer.{Answer}
-use Rattle.lent.specs.declared.answers.Block.{Block}
-use Rattle.lent.specs.declared.answers.DoubleBlock.{DoubleBlock}
 
 -- no refusal has the number 0
 pub not_zero : (why : Refusal) → number_of why ≡ 0 → ⊥
-not_zero cut_short e = omega arith
-not_zero field_order e = omega arith
-not_zero message_type e = omega arith
-not_zero field_form e = omega arith
-not_zero empty_text e = omega arith
-not_zero size e = omega arith
-not_zero character e = omega arith
-not_zero bad_block e = omega arith
-not_zero equal_halves e = omega arith
-not_zero bad_counter e = omega arith
-not_zero bad_record e = omega arith
-not_zero exhausted e = omega arith
-not_zero short_buffer e = omega arith
+not_zero CutShort e = omega arith
+not_zero FieldOrder e = omega arith
+not_zero MessageType e = omega arith
+not_zero FieldForm e = omega arith
+not_zero EmptyText e = omega arith
+not_zero Size e = omega arith
+not_zero Character e = omega arith
+not_zero BadBlock e = omega arith
+not_zero EqualHalves e = omega arith
+not_zero BadCounter e = omega arith
+not_zero BadRecord e = omega arith
+not_zero Exhausted e = omega arith
+not_zero ShortBuffer e = omega arith
 
 module _ {A : Type 0} where
   -- equal done answers have equal values
-  pub same_done : {a b : A} → done a ≡ done b → a ≡ b
+  pub same_done : {a b : A} → ◌≡◌ {A = Result A} (done a) (done b) → a ≡ b
   same_done e = cc
 
   -- a value under a test: the test held
@@ -75,25 +75,7 @@ pub answered_refused : (n : ℕ) (answer : Result (List ℕ)) {num : ℕ} {val :
 answered_refused n (done b) a h = absurd (h a.number)
 answered_refused n (refused why) a h = (why, a.number, refl)
 
--- what is answered for a refusal
-pub refused_block : {answer : Result (List ℕ)} {num : ℕ} {r : Block}
-    → r ≡ record { number = num; value = replicate 8 0 } → Refuses num answer → Answered 8 answer r.number r.value
-refused_block h (why, en, e) = rw (h, en, e) (record { number = refl; value = refl })
-
-pub refused_double_block : {answer : Result (List ℕ)} {num : ℕ} {r : DoubleBlock}
-    → r ≡ record { number = num; value = replicate 16 0 } → Refuses num answer → Answered 16 answer r.number r.value
-refused_double_block h (why, en, e) = rw (h, en, e) (record { number = refl; value = refl })
-
 -- ---- lent memory
-
--- a refusal leaves no length, and lent memory as it was
-pub refused_lent : {answer : Result (List ℕ)} {before : List ℕ} {num : ℕ} {r : Answer}
-    → r ≡ record { number = num; length = 0 } → Refuses num (lend (length before) answer) → Written answer before r.number r.length before
-refused_lent h (why, en, e) = rw h (record { number = rw e en; value = rw e; memory = rw e })
-
-pub refused_answer : {answer : Result (List ℕ)} {before : List ℕ} {num : ℕ} {r : Answer}
-    → r ≡ record { number = num; length = 0 } → Refuses num answer → Written answer before r.number r.length before
-refused_answer h (why, en, e) = refused_lent h (why, en, rw e)
 
 -- What a call wrote: a value that is done, or the number of a refusal.
 module _ {answer : Result (List ℕ)} {before after : List ℕ} {num len : ℕ} (w : Written answer before num len after) where
@@ -136,10 +118,63 @@ pub written_length : {answer : Result (List ℕ)} {before after : List ℕ} {num
 written_length {answer} {before} w =
     rw (w.memory, length-append, length-drop) (omega (arith, lent_within (length before) answer))
 
--- there was room for the value
-pub lent_all : {v before after : List ℕ} {num len : ℕ} → length v ≤ length before → Written (done v) before num len after → after ≡ over v before
-lent_all h w = rw (le-leb _ _ h) at w.memory
-
 -- a value that fills memory is what stands there
 pub over_whole : (v before : List ℕ) → length v ≡ length before → over v before ≡ v
 over_whole v before e = rw (drop_of_length-le before {i = length v} (omega arith)) (append-nil v)
+
+-- ---- functions that write into lent memory
+
+-- a refusal leaves lent memory as it was
+pub refused_writes : {answer : Result (List ℕ)} {before : List ℕ} {why : Refusal} → answer ≡ refused why → Writes answer before (refused why) before
+refused_writes e = record { value = rw e; memory = rw e }
+
+pub no_room_writes : {answer : Result (List ℕ)} {before : List ℕ} {why : Refusal}
+    → lend (length before) answer ≡ refused why → Writes answer before (refused why) before
+no_room_writes e = record { value = rw e; memory = rw e }
+
+-- a function that keeps the promise of the same answer keeps this one
+pub same_writes : {answer other : Result (List ℕ)} {before after : List ℕ} {r : Result ℕ}
+    → answer ≡ other → Writes other before r after → Writes answer before r after
+same_writes e w = rw e w
+
+module _ {answer : Result (List ℕ)} {before after : List ℕ} where
+  -- what a length says that was written: the value had room, and stands at the start of the memory
+  pub wrote : {n : ℕ} → Writes answer before (done n) after
+      → (v : List ℕ) × (answer ≡ done v) × (length v ≤ length before) × (n ≡ length v) × (after ≡ over v before)
+  wrote {n} w = decided answer refl
+    where
+      decided : (r : Result (List ℕ)) → answer ≡ r
+          → (v : List ℕ) × (answer ≡ done v) × (length v ≤ length before) × (n ≡ length v) × (after ≡ over v before)
+      decided (done v) e =
+          cases (leb (length v) (length before))
+          (λ t. (v, e, leb-true _ _ t, same_done (rw (e, t) at w.value), rw (e, t) at w.memory))
+          (λ f. let k = rw (e, f) at w.value in never (cc))
+      decided (refused why) e = let k = rw e at w.value in never (cc)
+
+  pub wrote_front : {n : ℕ} → Writes answer before (done n) after → (answer ≡ done (take n after)) × (n ≤ length after)
+  wrote_front {n} w = let k = wrote w in stands k.0 k.1 k.3 k.4
+    where
+      stands : (v : List ℕ) → answer ≡ done v → n ≡ length v → after ≡ over v before → (answer ≡ done (take n after)) × (n ≤ length after)
+      stands v e el ea =
+          (rw (el, ea) (e ∙ ap done (sym (take-append_seam v (drop (length v) before)))), rw (el, ea, length-append) (omega arith))
+
+  -- what a refusal says
+  pub not_written : {why : Refusal} → Writes answer before (refused why) after → (lend (length before) answer ≡ refused why) × (after ≡ before)
+  not_written {why} w = decided (lend (length before) answer) refl
+    where
+      decided : (r : Result (List ℕ)) → lend (length before) answer ≡ r → (lend (length before) answer ≡ refused why) × (after ≡ before)
+      decided (done v) e = let k = rw e at w.value in never (cc)
+      decided (refused other) e = (e ∙ (let k = rw e at w.value in cc), rw e at w.memory)
+
+  -- there is as much memory as before, and no more of it written
+  pub writes_length : {r : Result ℕ} → Writes answer before r after → length after ≡ length before
+  writes_length w =
+      rw (w.memory, length-append, length-drop) (omega (arith, lent_within (length before) answer))
+
+  -- what C gets keeps the promise in numbers
+  pub writes_written : {r : Result ℕ} {a : Answer} → Writes answer before r after → a ≡ answer_of r → Written answer before a.number a.length after
+  writes_written {r} {a} w e = decided (lend (length before) answer) refl
+    where
+      decided : (l : Result (List ℕ)) → lend (length before) answer ≡ l → Written answer before a.number a.length after
+      decided (done v) el = rw e (record { number = rw (w.value, el); value = rw (w.value, el); memory = w.memory })
+      decided (refused why) el = rw e (record { number = rw (w.value, el); value = rw (w.value, el); memory = w.memory })

@@ -9,5 +9,6 @@ pub mod Keys
 pub mod Refusals
 pub mod Result
 pub mod Appending
+pub mod Permitted
 pub mod ReadsBack
 pub mod Private

@@ -1,25 +1,36 @@
 // A text between its length and a fill.
-ghost use Rattle.std.specs.Prelude.{◌≡◌, ◌+◌, ◌*◌, ◌≤◌};
-ghost use Rattle.lent.specs.Frames.{framed_text};
+ghost use Rattle.std.specs.Prelude.{◌≡◌, ◌+◌, ◌*◌, ◌≤◌, length};
+ghost use Rattle.lent.specs.Frames.{framed, framed_text};
 ghost use Rattle.lent.specs.HalfBytes.{low_half};
+
+use crate::characters::two_digits;
+
+// The text after its length, as two decimal digits, and before a fill up to N characters.
+pub fn framed<const N: usize>(fill: u8, text: &[u8]) -> [u8; N]
+    requires { 2 + length text.now ≤ N }
+    ensures { result ≡ framed N fill text.now }
+{
+    let mut frame = [fill; N];
+    let (said, rest) = frame.split_at_mut(2);
+    said.copy_from_slice(&two_digits(text.len()));
+    rest[..text.len()].copy_from_slice(text);
+    frame
+}
 
 // The number of two decimal digits, by their low half-bytes.
 fn two_digit_number(tens: u8, ones: u8) -> usize
-    ensures { (result ≡ low_half tens * 10 + low_half ones) × (result ≤ 165) }
+    ensures value { result ≡ low_half tens * 10 + low_half ones }
+    ensures bound { result ≤ 165 }
 {
-    ((tens % 16) as usize) * 10 + ((ones % 16) as usize)
+    usize::from(tens % 16) * 10 + usize::from(ones % 16)
 }
 
 // What stands after the length, as many characters as it says, or up to the end.
 pub fn framed_text(s: &[u8]) -> &[u8]
     ensures { result.now ≡ framed_text s.now }
 {
-    if s.len() < 2 {
-        return &s[..0];
+    match s {
+        [tens, ones, text @ ..] => &text[..two_digit_number(*tens, *ones).min(text.len())],
+        _ => &[],
     }
-    let end = 2 + two_digit_number(s[0], s[1]);
-    if s.len() < end {
-        return &s[2..];
-    }
-    &s[2..end]
 }

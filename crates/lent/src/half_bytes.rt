@@ -6,18 +6,12 @@ ghost use Rattle.lent.specs.HalfBytes.{low_half, word_of};
 fn with_half_byte(x: u64, h: u8) -> u64
     ensures { result ≡ (x * 16 + h % 16) % 2 ^ 64 }
 {
-    (x << 4) + (h % 16) as u64
+    (x << 4) + u64::from(h % 16)
 }
 
 // The word x with the low half-bytes of a text's characters put after its own; the highest are dropped.
 pub fn with_half_bytes(x: u64, text: &[u8]) -> u64
     ensures { (first : List ℕ) → x ≡ word_of first → result ≡ word_of (first ++ map low_half text.now) }
 {
-    let mut r = x;
-    let mut i: usize = 0;
-    while i < text.len() {
-        r = with_half_byte(r, text[i]);
-        i += 1;
-    }
-    r
+    text.iter().fold(x, |word, h| with_half_byte(word, *h))
 }

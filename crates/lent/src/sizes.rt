@@ -8,20 +8,14 @@ ghost use Rattle.lent.specs.Keys.{key_sizes};
 pub fn key_size(bytes: usize) -> bool
     ensures { result ≡ key_sizes bytes }
 {
-    if bytes == 8 {
-        return true;
-    }
-    bytes == 16
+    matches!(bytes, 8 | 16)
 }
 
 // Whether s has from `least` to `most` bytes.
 pub fn sized(least: usize, most: usize, s: &[u8]) -> bool
     ensures { result ≡ between least most (length s.now) }
 {
-    if s.len() < least {
-        return false;
-    }
-    s.len() <= most
+    (least..=most).contains(&s.len())
 }
 
 // Whether a card number has 13 to 19 characters.

@@ -2,13 +2,13 @@
 -- filled with zero bytes up to a multiple of 8; nothing is added if it already is one.
 use Rattle.std.specs.Prelude.{◌≡◌, List, ℕ, eqb, leb, ltb, length}
 use Rattle.lent.specs.Refusals.{size, empty_text, short_buffer}
-use Rattle.lent.specs.Result.{Result, done, require, and_then, bytes, fixed, over, Answered}
+use Rattle.lent.specs.Result.{Result, done, require, and_then, bytes, over}
 use Rattle.lent.specs.Words.{word, word_bytes}
 use Rattle.chaining.specs.Chain.{chained}
 use Rattle.cleaning.specs.Cleaning.{clean_text}
-use Rattle.cleaning.specs.Counts.{Counted, where_done}
+use Rattle.cleaning.specs.Counts.{counts_of, cleaned_of}
 use Rattle.message.specs.Text.{message_text}
-use Rattle.mac.specs.declared.MacAnswer.{MacAnswer}
+use Rattle.mac.specs.declared.Mac.{Mac}
 use Rattle.mac.specs.declared.TextMac.{TextMac}
 
 -- the MAC of a text under a key of eight bytes
@@ -39,20 +39,16 @@ lend_text room answer = and_then answer (λ a. require (leb (length a.0) room) s
 abbrev pub text_in : Result (List ℕ × List ℕ) → List ℕ
 text_in answer = bytes (and_then answer (λ a. done a.0))
 
--- the MAC; a refusal's is zeros
-abbrev pub mac_in : Result (List ℕ × List ℕ) → List ℕ
-mac_in answer = fixed 8 (and_then answer (λ a. done a.1))
+-- a MAC, with what cleaning threw away of the text before it
+abbrev pub counted_mac : Result (List ℕ) → Result (List ℕ) → Result Mac
+counted_mac answer raw = and_then answer (λ mac. done (record { value = mac; counts = counts_of raw }))
 
--- The promise of an entry that answers the MAC of a cleaned text: its number and MAC, and the two numbers of what cleaning threw away.
-pub record AnsweredMac (answer raw : Result (List ℕ)) (r : MacAnswer) : Type 0 where
-  pub answered : Answered 8 answer r.number r.value
-  pub counted : Counted (where_done answer raw) r.dropped r.spaces
+-- a text that was written and its MAC, with what cleaning threw away of the text before it
+abbrev pub both_of : Result (List ℕ) → List ℕ × List ℕ → TextMac
+both_of raw a = record { text = cleaned_of raw a.0; mac = a.1 }
 
--- The promise of an entry that writes a text into lent memory and answers its MAC: the number, the text's length, the MAC, the memory afterwards, and
--- the two numbers of what cleaning threw away.
-pub record TextAndMac (answer : Result (List ℕ × List ℕ)) (raw : Result (List ℕ)) (before : List ℕ) (r : TextMac) (after : List ℕ) : Type 0 where
-  pub number : r.number ≡ Rattle.lent.specs.Result.number (lend_text (length before) answer)
-  pub text : r.length ≡ length (text_in (lend_text (length before) answer))
-  pub mac : r.mac ≡ mac_in (lend_text (length before) answer)
+-- The promise of a function that writes a text into lent memory and answers its MAC: the text's length, what cleaning threw away and the MAC, or the
+-- refusal, and the memory afterwards.
+pub record TextAndMac (answer : Result (List ℕ × List ℕ)) (raw : Result (List ℕ)) (before : List ℕ) (r : Result TextMac) (after : List ℕ) : Type 0 where
+  pub value : r ≡ and_then (lend_text (length before) answer) (λ a. done (both_of raw a))
   pub memory : after ≡ over (text_in (lend_text (length before) answer)) before
-  pub counted : Counted (where_done (lend_text (length before) answer) raw) r.dropped r.spaces

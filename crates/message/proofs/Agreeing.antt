@@ -3,16 +3,14 @@ use borrow.Author.Tests.{eqb-true, eqb-false, eq-eqb, ne_eqb, leb-true, leb-fals
 use mathlib.Core.Path.{◌≡◌, refl, sym, ap, ap₂, ◌∙◌}
 use mathlib.Core.Bool.{false}
 use mathlib.Core.List.{List, [], ◌∷◌}
-use mathlib.Core.Option.{Option, none, some}
 use Prim.Native.Nat.{ℕ, ◌+◌, ◌<◌, ◌≤◌}
 use native.Mathlib.Omega.{arith}
 use lib.Arith.{lt_of_le-ne}
 use lib.Dec.{leb, eqb}
+use Rattle.std.specs.Prelude.{Option, Some, None}
 use Rattle.lent.specs.Choice.{pick}
 use Rattle.lent.proofs.Laws.{cases, never}
 use Rattle.message.specs.Fields.{listed}
-use Rattle.message.specs.declared.records.Place.{Place}
-use Rattle.message.specs.declared.records.Place.TheVariants.{First, After}
 use Rattle.message.specs.Records.{Field}
 use Rattle.message.specs.Text.{listed_only, body_in, Agree}
 use Rattle.message.proofs.Reading.{lowest, lowest_is}
@@ -23,9 +21,9 @@ abbrev Sorted : ℕ → List Field → Type 0
 Sorted lowest [] = Unit
 Sorted lowest (f ∷ fs) = (lowest ≤ f.number) × Sorted (f.number + 1) fs
 
-rising_sorted : (place : Place) (fs : List Field) → Rising place fs → Sorted (lowest place) fs
-rising_sorted place [] r = tt
-rising_sorted place (f ∷ fs) r = (lowest_is place f.number r.0, rising_sorted (After f.number) fs r.2)
+rising_sorted : (before : Option ℕ) (fs : List Field) → Rising before fs → Sorted (lowest before) fs
+rising_sorted before [] r = tt
+rising_sorted before (f ∷ fs) r = (lowest_is before f.number r.0, rising_sorted (Some f.number) fs r.2)
 
 weaker : (fs : List Field) (a b : ℕ) → a ≤ b → Sorted b fs → Sorted a fs
 weaker [] a b h r = tt
@@ -39,14 +37,14 @@ listed_sorted (f ∷ fs) lowest r =
     cases (listed f.number) (λ t. simp t (r.0, rest)) (λ n. simp n (weaker (listed_only fs) lowest (f.number + 1) (omega (arith, r.0)) rest))
 
 -- no field has a number below the lowest
-absent : (fs : List Field) (lowest n : ℕ) → Sorted lowest fs → n < lowest → body_in n fs ≡ none
+absent : (fs : List Field) (lowest n : ℕ) → Sorted lowest fs → n < lowest → body_in n fs ≡ None
 unfolding body_in
 absent [] lowest n r h = refl
 absent (f ∷ fs) lowest n r h =
     let l = r.0 in
     simp (ne_eqb n f.number (λ z. omega arith)) (absent fs (f.number + 1) n r.1 (omega arith))
 
-present : (f : Field) (fs : List Field) → body_in f.number (f ∷ fs) ≡ some f.body
+present : (f : Field) (fs : List Field) → body_in f.number (f ∷ fs) ≡ Some f.body
 unfolding body_in
 present f fs = simp (eq-eqb f.number f.number refl)
 
@@ -54,7 +52,7 @@ later : (f : Field) (fs : List Field) (n : ℕ) → eqb n f.number ≡ false →
 unfolding body_in
 later f fs n d = simp d
 
-body_in_listed : (fs : List Field) (n : ℕ) → body_in n (listed_only fs) ≡ pick (listed n) (body_in n fs) none
+body_in_listed : (fs : List Field) (n : ℕ) → body_in n (listed_only fs) ≡ pick (listed n) (body_in n fs) None
 unfolding body_in listed_only
 body_in_listed [] n = cases (listed n) (λ t. simp t) (λ f. simp f)
 body_in_listed (f ∷ fs) n =
@@ -65,13 +63,13 @@ body_in_listed (f ∷ fs) n =
     (λ d. cases (listed f.number) (λ t. simp (t, d, body_in_listed fs n)) (λ u. simp (u, d, body_in_listed fs n)))
 
 -- a field that is present is not absent
-not_absent : (b : List ℕ) (o : Option (List ℕ)) → o ≡ some b → o ≡ none → ⊥
+not_absent : (b : List ℕ) (o : Option (List ℕ)) → o ≡ Some b → o ≡ None → ⊥
 not_absent b o p q = never (cc)
 
 -- the first fields are the same
 first_same : (f g : Field) (fs gs : List Field) → f.number ≡ g.number → ((n : ℕ) → body_in n (f ∷ fs) ≡ body_in n (g ∷ gs)) → f ≡ g
 first_same f g fs gs t e =
-    let there : body_in f.number (g ∷ gs) ≡ some g.body = rw t (present g gs) in
+    let there : body_in f.number (g ∷ gs) ≡ Some g.body = rw t (present g gs) in
     let body : f.body ≡ g.body = cc (present f fs, e f.number, there) in
     ap (λ (k : ℕ). record { number = k; body = f.body }) t ∙ ap (λ (x : List ℕ). record { number = g.number; body = x }) body
 
@@ -108,7 +106,7 @@ same (f ∷ fs) (g ∷ gs) a b r q e =
     (λ l. absurd (lower g f gs fs r.1 (leb-false _ _ l) (sym (e g.number)))))
 
 -- fields that rise and agree on the listed ones have the same listed fields
-pub listed_same : (fs gs : List Field) → Rising First fs → Rising First gs → Agree fs gs → listed_only fs ≡ listed_only gs
+pub listed_same : (fs gs : List Field) → Rising None fs → Rising None gs → Agree fs gs → listed_only fs ≡ listed_only gs
 listed_same fs gs r q a =
-    same (listed_only fs) (listed_only gs) 0 0 (listed_sorted fs 0 (rising_sorted First fs r)) (listed_sorted gs 0 (rising_sorted First gs q))
+    same (listed_only fs) (listed_only gs) 0 0 (listed_sorted fs 0 (rising_sorted None fs r)) (listed_sorted gs 0 (rising_sorted None gs q))
     (λ n. body_in_listed fs n ∙ cases (listed n) (λ t. simp t (a n t)) (λ u. simp u) ∙ sym (body_in_listed gs n))

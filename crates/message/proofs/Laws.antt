@@ -7,6 +7,7 @@ use mathlib.Core.List.{List, [], ◌∷◌, ◌++◌, map}
 use Prim.Native.Nat.{ℕ, ◌+◌, ◌<◌, ◌≤◌}
 use native.Mathlib.Omega.{arith}
 use lib.ListN.{length, drop, length-append, length-drop}
+use Rattle.std.specs.Prelude.{Option, Some, None}
 use Rattle.lent.specs.Choice.{between, all}
 use Rattle.lent.specs.Characters.{digit}
 use Rattle.lent.specs.declared.characters.Kind.TheVariants.{Digits}
@@ -19,10 +20,7 @@ use Rattle.cleaning.proofs.Counting.{sizes}
 use Rattle.cleaning.proofs.Laws.{cleaned_again, cleaned_short, cleaned_digit}
 use Rattle.message.specs.declared.fields.Shape.TheVariants.{All}
 use Rattle.message.specs.declared.fields.Entry.TheVariants.{Whole}
-use Rattle.message.specs.declared.fields.Rule.TheVariants.{Listed}
-use Rattle.message.specs.declared.records.Place.{Place}
-use Rattle.message.specs.declared.records.Place.TheVariants.{First, After}
-use Rattle.message.specs.Fields.{table, rule_in, rule, shaped, formed}
+use Rattle.message.specs.Fields.{asked, table, rule_in, rule, shaped, formed}
 use Rattle.message.specs.Records.{Field, message_fields}
 use Rattle.message.specs.Text.{entered, shown_field, listed_only, joined, text_of, joined_text, message_text, Agree}
 use Rattle.message.specs.Gathered.{space_before_each, spaced, gathered}
@@ -39,12 +37,12 @@ fields_of m t e =
     let k = then_done (message_fields m) _ t e in
     (k.0, k.1, same_done k.2)
 
-spaced_short : (fs : List Field) (place : Place) → Rising place fs → room place + length (spaced fs) ≤ 167
+spaced_short : (fs : List Field) (before : Option ℕ) → Rising before fs → room before + length (spaced fs) ≤ 167
 unfolding spaced space_before_each listed_only
-spaced_short [] place r = omega (arith, room_short place)
-spaced_short (f ∷ fs) place r =
+spaced_short [] before r = omega (arith, room_short before)
+spaced_short (f ∷ fs) before r =
     rw (spaced_next f fs, length-append)
-    (omega (arith, room_grows place f.number f.body r.0 r.1, spaced_short fs (After f.number) r.2))
+    (omega (arith, room_grows before f.number f.body r.0 r.1, spaced_short fs (Some f.number) r.2))
 
 -- a message's text has at most 166 characters
 pub at_most_166 : (m t : List ℕ) → message_text m ≡ done t → length t ≤ 166
@@ -57,7 +55,7 @@ at_most_166 m t e =
       ap length k.2,
       cleaned_short (joined ss),
       joined_short ss,
-      spaced_short k.0 First (fields_rising m k.0 k.1).0,
+      spaced_short k.0 None (fields_rising m k.0 k.1).0,
     )
 
 -- cleaning it changes nothing
@@ -74,7 +72,7 @@ digits_some [] ss d h = absurd (omega arith)
 digits_some (x ∷ s) [] d h = cleaned_digit x s [] (both_true (digit x) _ d).0
 digits_some (x ∷ s) (t ∷ ss) d h = cleaned_digit x (s ++ 32 ∷ joined (t ∷ ss)) [] (both_true (digit x) _ d).0
 
-type_rule : rule 0 ≡ Listed (All Digits) 4 4 Whole
+type_rule : rule 0 ≡ Some (asked (All Digits) 4 4 Whole)
 unfolding table rule_in rule
 type_rule = refl
 
@@ -83,7 +81,7 @@ type_some : (f : Field) (fs : List Field) → f.number ≡ 0 → formed (rule f.
 unfolding text_of listed_only formed shaped entered
 type_some f fs z w =
     let s = f.body in
-    let e : rule f.number ≡ Listed (All Digits) 4 4 Whole = rw z type_rule in
+    let e : rule f.number ≡ Some (asked (All Digits) 4 4 Whole) = rw z type_rule in
     let b = both_true (between 4 4 (length s)) (all digit s) (rw e at w) in
     let long = between_true 4 4 (length s) b.0 in
     simp e (digits_some s (map shown_field (listed_only fs)) b.1 (omega arith))
@@ -95,7 +93,7 @@ never_empty m t e =
     let r = fields_rising m k.0 k.1 in
     omega (arith, ap length k.2, some k.0 r.0 r.1)
   where
-    some : (fs : List Field) → Rising First fs → 0 < length fs → 0 < length (text_of fs)
+    some : (fs : List Field) → Rising None fs → 0 < length fs → 0 < length (text_of fs)
     some [] r h = absurd (omega arith)
     some (f ∷ fs) r h = type_some f fs (eqb-true f.number 0 r.0) r.1
 

@@ -1,5 +1,6 @@
 mod Example
 mod Reading
+mod Types
 mod Walking
 mod Room
 mod Joining

@@ -1,14 +1,12 @@
 -- A message's MAC text (01, The message and its MAC text).
-use Rattle.std.specs.Prelude.{◌≡◌, true, List, [], ◌∷◌, ◌++◌, map, ℕ, eqb, length, take}
-use Rattle.std.proofs.Math.Option.{Option, none, some}
+use Rattle.std.specs.Prelude.{◌≡◌, true, List, [], ◌∷◌, ◌++◌, map, ℕ, Option, Some, None, eqb, length, take}
 use Rattle.lent.specs.Choice.{pick, only}
 use Rattle.lent.specs.Characters.{two_digits}
 use Rattle.lent.specs.Result.{Result, done, and_then}
 use Rattle.cleaning.specs.Cleaning.{space, cleaned}
 use Rattle.message.specs.declared.fields.Entry.{Entry}
 use Rattle.message.specs.declared.fields.Entry.TheVariants.{Whole, Counted, First}
-use Rattle.message.specs.declared.fields.Rule.{Rule}
-use Rattle.message.specs.declared.fields.Rule.TheVariants.{Listed, Unlisted}
+use Rattle.message.specs.declared.fields.Listed.{Listed}
 use Rattle.message.specs.Fields.{rule, listed}
 use Rattle.message.specs.Records.{Field, message_fields}
 
@@ -18,10 +16,10 @@ entered Whole s = s
 entered Counted s = two_digits (length s) ++ s
 entered (First n) s = take n s
 
--- what goes into the text of a body with this rule
-abbrev pub shown : Rule → List ℕ → List ℕ
-shown (Listed shape least most entry) s = entered entry s
-shown Unlisted s = []
+-- what goes into the text of a body of which this is asked
+abbrev pub shown : Option Listed → List ℕ → List ℕ
+shown (Some r) s = entered r.entry s
+shown None s = []
 
 -- what goes into the text of a field
 abbrev pub shown_field : Field → List ℕ
@@ -55,8 +53,8 @@ message_text s = and_then (message_fields s) (λ fs. done (text_of fs))
 
 -- the body of field n, if it is present
 unfoldable pub body_in : ℕ → List Field → Option (List ℕ)
-body_in n [] = none
-body_in n (f ∷ fs) = pick (eqb n f.number) (some f.body) (body_in n fs)
+body_in n [] = None
+body_in n (f ∷ fs) = pick (eqb n f.number) (Some f.body) (body_in n fs)
 
 -- the two agree on the listed fields: each is present in both with the same body, or absent in both
 abbrev pub Agree : List Field → List Field → Type 0

@@ -1,11 +1,17 @@
 // The listed fields of a message (01, The message and its MAC text).
-ghost use Rattle.std.specs.Prelude.{◌≡◌};
+ghost use Rattle.std.specs.Prelude.{◌≡◌, ◌+◌, ◌≤◌, ◌++◌, length, Some};
+ghost use Rattle.lent.specs.declared.characters.Kind.TheVariants.{Digits};
+ghost use Rattle.message.specs.declared.fields.Shape.TheVariants.{All};
+ghost use Rattle.message.specs.declared.fields.Entry.TheVariants.{Whole, Counted};
+ghost use Rattle.arrayvec.specs.ArrayVec.{array_vec_len};
 ghost use Rattle.message.specs.Fields;
+ghost use Rattle.message.specs.Text;
 
+use arrayvec::ArrayVec;
 use lent::Kind;
 
 // The characters of a field's body.
-#[derive(Drop)]
+#[derive(Clone, Copy)]
 pub(crate) enum Shape {
     // All of one kind.
     All(Kind),
@@ -13,8 +19,24 @@ pub(crate) enum Shape {
     CreditOrDebit,
 }
 
+impl Shape {
+    // Whether the characters of a body are of the shape.
+    #[tactic(auto, unfolding(crate::specs::Fields::shaped))]
+    fn fits(self, body: &[u8]) -> bool
+        ensures { result ≡ Fields.shaped self body.now }
+    {
+        match self {
+            Shape::All(kind) => lent::all_of_kind(kind, body),
+            Shape::CreditOrDebit => match body {
+                [b'C' | b'D', digits @ ..] => lent::all_digits(digits),
+                _ => false,
+            },
+        }
+    }
+}
+
 // How a field's body enters the text.
-#[derive(Drop)]
+#[derive(Clone, Copy)]
 pub(crate) enum Entry {
     Whole,
     // With two decimal digits of length before it.
@@ -23,66 +45,95 @@ pub(crate) enum Entry {
     First(usize),
 }
 
-// What is asked of a field.
-#[derive(Drop)]
-pub(crate) enum Rule {
-    // The characters of its body, its least and its greatest length, and how it enters the text.
-    Listed(Shape, usize, usize, Entry),
-    // Walked over and not used.
-    Unlisted,
+impl Entry {
+    // Appends a body as it enters the text.
+    #[tactic(auto, unfolding(crate::specs::Text::entered))]
+    pub(crate) fn append(self, text: &mut ArrayVec<u8, 167>, body: &[u8])
+        requires { array_vec_len text.old + length (Text.entered self body.now) ≤ 167 }
+        ensures { text.new.items ≡ text.old.items ++ Text.entered self body.now }
+    {
+        match self {
+            Entry::Whole => lent::extend(text, body),
+            Entry::Counted => {
+                lent::extend(text, &lent::two_digits(body.len()));
+                lent::extend(text, body);
+            }
+            Entry::First(count) => lent::extend(text, &body[..count.min(body.len())]),
+        }
+    }
 }
 
-// The rule of a field number.
+// What is asked of a listed field: the characters of its body, its least and its greatest length, and how it enters the text.
+#[derive(Clone, Copy)]
+pub(crate) struct Listed {
+    shape: Shape,
+    least: usize,
+    most: usize,
+    pub(crate) entry: Entry,
+}
+
+impl Listed {
+    // A body of so many characters of a kind, which enters whole.
+    fn whole(kind: Kind, size: usize) -> Listed
+        ensures { result ≡ Fields.asked (All kind) size size Whole }
+    {
+        Listed {
+            shape: Shape::All(kind),
+            least: size,
+            most: size,
+            entry: Entry::Whole,
+        }
+    }
+
+    // From `least` to `most` digits, which enter with their length.
+    fn counted(least: usize, most: usize) -> Listed
+        ensures { result ≡ Fields.asked (All Digits) least most Counted }
+    {
+        Listed {
+            shape: Shape::All(Kind::Digits),
+            least,
+            most,
+            entry: Entry::Counted,
+        }
+    }
+
+    // Whether a body has the length and the characters that are asked.
+    #[tactic(auto, unfolding(crate::specs::Fields::formed))]
+    pub(crate) fn formed(self, body: &[u8]) -> bool
+        ensures { result ≡ Fields.formed (Some self) body.now }
+    {
+        lent::sized(self.least, self.most, body) && self.shape.fits(body)
+    }
+}
+
+// What is asked of a field; one that is not listed is walked over and not used.
 #[tactic(auto, unfolding(crate::specs::Fields::table, crate::specs::Fields::rule_in, crate::specs::Fields::rule))]
-pub(crate) fn rule_of(field: usize) -> Rule
+pub(crate) fn rule_of(field: usize) -> Option<Listed>
     ensures { result ≡ Fields.rule field }
 {
     match field {
-        0 => Rule::Listed(Shape::All(Kind::Digits), 4, 4, Entry::Whole),
-        2 => Rule::Listed(Shape::All(Kind::Digits), 13, 19, Entry::Counted),
-        3 => Rule::Listed(Shape::All(Kind::Digits), 6, 6, Entry::Whole),
-        4 => Rule::Listed(Shape::All(Kind::Digits), 12, 12, Entry::Whole),
-        7 => Rule::Listed(Shape::All(Kind::Digits), 10, 10, Entry::Whole),
-        11 => Rule::Listed(Shape::All(Kind::Digits), 6, 6, Entry::Whole),
-        18 => Rule::Listed(Shape::All(Kind::Digits), 4, 4, Entry::Whole),
-        25 => Rule::Listed(Shape::All(Kind::Digits), 2, 2, Entry::Whole),
-        28 => Rule::Listed(Shape::CreditOrDebit, 9, 9, Entry::Whole),
-        32 => Rule::Listed(Shape::All(Kind::Digits), 1, 11, Entry::Counted),
-        33 => Rule::Listed(Shape::All(Kind::Digits), 1, 11, Entry::Counted),
-        38 => Rule::Listed(Shape::All(Kind::LettersOrDigits), 6, 6, Entry::Whole),
-        39 => Rule::Listed(Shape::All(Kind::LettersOrDigits), 2, 2, Entry::Whole),
-        41 => Rule::Listed(Shape::All(Kind::Printable), 8, 8, Entry::Whole),
-        42 => Rule::Listed(Shape::All(Kind::Printable), 15, 15, Entry::Whole),
-        90 => Rule::Listed(Shape::All(Kind::Digits), 42, 42, Entry::First(20)),
-        _ => Rule::Unlisted,
+        0 => Some(Listed::whole(Kind::Digits, 4)),
+        2 => Some(Listed::counted(13, 19)),
+        3 => Some(Listed::whole(Kind::Digits, 6)),
+        4 => Some(Listed::whole(Kind::Digits, 12)),
+        7 => Some(Listed::whole(Kind::Digits, 10)),
+        11 => Some(Listed::whole(Kind::Digits, 6)),
+        18 => Some(Listed::whole(Kind::Digits, 4)),
+        25 => Some(Listed::whole(Kind::Digits, 2)),
+        28 => Some(Listed {
+            shape: Shape::CreditOrDebit,
+            ..Listed::whole(Kind::Digits, 9)
+        }),
+        32 => Some(Listed::counted(1, 11)),
+        33 => Some(Listed::counted(1, 11)),
+        38 => Some(Listed::whole(Kind::LettersOrDigits, 6)),
+        39 => Some(Listed::whole(Kind::LettersOrDigits, 2)),
+        41 => Some(Listed::whole(Kind::Printable, 8)),
+        42 => Some(Listed::whole(Kind::Printable, 15)),
+        90 => Some(Listed {
+            entry: Entry::First(20),
+            ..Listed::whole(Kind::Digits, 42)
+        }),
+        _ => None,
     }
-}
-
-// Whether the characters of a body are as its field's rule has them.
-fn shaped(shape: Shape, body: &[u8]) -> bool
-    ensures { result ≡ Fields.shaped shape body.now }
-{
-    let Shape::All(kind) = shape else {
-        if body.len() == 0 {
-            return false;
-        }
-        if !lent::between(b'C', b'D', body[0]) {
-            return false;
-        }
-        return lent::all_digits(&body[1..]);
-    };
-    lent::all_of_kind(kind, body)
-}
-
-// Whether a body has the length and the characters of its field's rule.
-pub(crate) fn formed(rule: Rule, body: &[u8]) -> bool
-    ensures { result ≡ Fields.formed rule body.now }
-{
-    let Rule::Listed(shape, least, most, _) = rule else {
-        return true;
-    };
-    if !lent::sized(least, most, body) {
-        return false;
-    }
-    shaped(shape, body)
 }

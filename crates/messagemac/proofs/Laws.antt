@@ -7,13 +7,16 @@ use native.Mathlib.Omega.{arith}
 use lib.Dec.{eqb, leb}
 use lib.ListN.{length, take, drop, length-drop, drop_of_length-le}
 use lib.Seq.{take_all, length-take-le}
-use Rattle.lent.specs.Refusals.{size}
-use Rattle.lent.specs.Result.{refused}
-use Rattle.lent.proofs.Laws.{cases}
-use Rattle.lent.proofs.Results.{Refuses}
+use Rattle.lent.specs.Refusals.{size, number_of}
+use Rattle.lent.specs.declared.refusals.Refusal.{Refusal}
+use Rattle.lent.specs.Result.{Result, done, refused}
+use Rattle.lent.proofs.Laws.{cases, never}
+use Rattle.keyentry.specs.Hexadecimal.{text_of}
 use Rattle.message.specs.Records.{message_fields}
-use Rattle.message.specs.Text.{message_text}
-use Rattle.mac.specs.Mac.{message_mac, message_text_and_mac}
+use Rattle.message.specs.Text.{joined_text, message_text}
+use Rattle.mac.specs.Mac.{message_mac, message_text_and_mac, TextAndMac}
+use Rattle.mac.specs.declared.TextMac.{TextMac}
+use Rattle.mac.proofs.Laws.{both_done, both_refused}
 use Rattle.messagemac.specs.Output.{line, decimal_in, decimal, refused_word, lines, answer, output}
 
 pub short_answer : (input : List ℕ) → length input < 8 → answer input ≡ refused size
@@ -24,11 +27,35 @@ pub whole_answer : (input : List ℕ) → 8 ≤ length input → answer input �
 unfolding answer
 whole_answer input h = simp (le-leb _ _ h)
 
--- what is written for a refusal
-pub refused_output : (input : List ℕ) {num : ℕ} → 8 ≤ length input → Refuses num (message_text_and_mac (take 8 input) (drop 8 input))
-    → output input ≡ line (refused_word ++ decimal num)
-unfolding lines
-refused_output input h (why, en, e) = rw (whole_answer input h, e, en)
+-- what is written for a text and its MAC, and for a refusal
+module _ (input : List ℕ) {before after : List ℕ} (l : length before ≡ 166) where
+  pub output_done : {t : TextMac} → TextAndMac (answer input) (joined_text (drop 8 input)) before (done t) after
+      → output input
+      ≡ line (take t.text.length after) ++ line (text_of 65 t.mac) ++ line (decimal t.text.counts.dropped ++ 32 ∷ decimal t.text.counts.spaces)
+  unfolding lines
+  output_done {t} w =
+      cases (leb 8 (length input))
+      (λ g.
+      let e = whole_answer input (leb-true _ _ g) in
+      let k = both_done (take 8 input) (drop 8 input) l (rw e at w) in
+      rw (e, k.0, k.2))
+      (λ f. let k = rw (short_answer input (leb-false _ _ f)) at w.value in never (cc))
+
+  pub output_refused : {why : Refusal} → TextAndMac (answer input) (joined_text (drop 8 input)) before (refused why) after
+      → output input ≡ line (refused_word ++ decimal (number_of why))
+  unfolding lines
+  output_refused {why} w =
+      cases (leb 8 (length input))
+      (λ g.
+      let e = whole_answer input (leb-true _ _ g) in
+      rw (e, both_refused (take 8 input) (drop 8 input) l (rw e at w)))
+      (λ f.
+      let e = short_answer input (leb-false _ _ f) in
+      let k : why ≡ size = same_refused (rw e at w.value) in
+      rw (e, k))
+    where
+      same_refused : {a b : Refusal} → ◌≡◌ {A = Result TextMac} (refused a) (refused b) → a ≡ b
+      same_refused h = cc
 
 -- fewer than eight bytes give `refused 6`
 pub fewer : (input : List ℕ) → length input < 8 → output input ≡ refused_word ++ 54 ∷ 10 ∷ []

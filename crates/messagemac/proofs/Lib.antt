@@ -1,3 +1,2 @@
 mod Decimal
-mod Lines
 mod Laws

@@ -1,5 +1,5 @@
 -- What the program writes for the bytes that it read: eight bytes of MAC key, then one message (01, The job and its edge).
-use Rattle.std.specs.Prelude.{◌≡◌, List, [], ◌∷◌, ◌++◌, ℕ, zero, suc, ◌/◌, ◌%◌, ◌≤◌, leb, ltb, length, take, drop}
+use Rattle.std.specs.Prelude.{List, [], ◌∷◌, ◌++◌, ℕ, zero, suc, ◌/◌, ◌%◌, leb, ltb, length, take, drop}
 use Rattle.lent.specs.Choice.{pick}
 use Rattle.lent.specs.Characters.{digit_of}
 use Rattle.lent.specs.Refusals.{size, number_of}
@@ -41,7 +41,3 @@ answer input = require (leb 8 (length input)) size (message_text_and_mac (take 8
 -- what is written
 abbrev pub output : List ℕ → List ℕ
 output input = lines (joined_text (drop 8 input)) (answer input)
-
--- The promise of what makes it in memory: it is the first r bytes there, at most 226.
-abbrev pub Made : List ℕ → List ℕ → ℕ → Type 0
-Made made after r = (take r after ≡ made) × (r ≤ 226)

@@ -41,10 +41,10 @@ one_odd b c p q e = omega (arith, e, ap ones e, ones_step b, ones_step c, eqb-tr
 -- ---- of a key
 
 -- every byte of an adjusted key has an odd number of ones
-pub odd_parity_lem : (key : List ℕ) → odd_parity (adjusted key) ≡ true
+pub adjusted_has_parity : (key : List ℕ) → odd_parity (adjusted key) ≡ true
 unfolding adjusted
-odd_parity_lem [] = refl
-odd_parity_lem (b ∷ key) = rw (adjusted_odd b) (odd_parity_lem key)
+adjusted_has_parity [] = refl
+adjusted_has_parity (b ∷ key) = rw (adjusted_odd b) (adjusted_has_parity key)
 
 -- it agrees with the key but for low bits
 pub low_bits_alone : (key : List ℕ) → without_low_bits (adjusted key) ≡ without_low_bits key

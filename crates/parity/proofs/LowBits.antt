@@ -32,10 +32,10 @@ module _ (s t : List ℕ) (hs : Digits 256 s) (ht : Digits 256 t) where
       by_cases (dec_lt k n) (each_byte n p.1 k)
       (λ g. let i : k ≡ n = omega arith in rw i (eqb-true _ _ p.0))
 
-  pub same_bytes_lem : (n : ℕ) → ((k : ℕ) → k < n → get_or s k 0 / 2 ≡ get_or t k 0 / 2) → same_bytes n (from_base 256 n s) (from_base 256 n t) ≡ true
-  same_bytes_lem zero f = same_none _ _
-  same_bytes_lem (suc n) f =
-      last_and_rest n ∙ (and-eq-true_iff _ _).1 (eq-eqb _ _ (f n (omega arith)), same_bytes_lem n (λ k h. f k (omega arith)))
+  pub same_from_bytes : (n : ℕ) → ((k : ℕ) → k < n → get_or s k 0 / 2 ≡ get_or t k 0 / 2) → same_bytes n (from_base 256 n s) (from_base 256 n t) ≡ true
+  same_from_bytes zero f = same_none _ _
+  same_from_bytes (suc n) f =
+      last_and_rest n ∙ (and-eq-true_iff _ _).1 (eq-eqb _ _ (f n (omega arith)), same_from_bytes n (λ k h. f k (omega arith)))
 
 -- ---- two keys of sixteen bytes that agree but for low bits
 
@@ -49,11 +49,11 @@ module _ (key other : List ℕ) (bytes : Digits 256 key) (e : without_low_bits o
   other_bytes k = omega (arith, each k, bytes k)
 
   same_left : same_key (left other) (left key) ≡ true
-  same_left = same_bytes_lem other key other_bytes bytes 8 (λ k h. each k)
+  same_left = same_from_bytes other key other_bytes bytes 8 (λ k h. each k)
 
   same_right : same_key (right other) (right key) ≡ true
   same_right =
-      same_bytes_lem (drop 8 other) (drop 8 key) (digits_drop 256 8 other other_bytes) (digits_drop 256 8 key bytes) 8
+      same_from_bytes (drop 8 other) (drop 8 key) (digits_drop 256 8 other other_bytes) (digits_drop 256 8 key bytes) 8
       (λ k h. rw (get_or-drop 8 other k 0, get_or-drop 8 key k 0) (each (8 + k)))
 
   -- triple DES under them is the same

@@ -25,9 +25,9 @@ range_byte lo hi x h e = lt-ltb x 256 (omega (arith, between_true lo hi x e))
 short : (password : List ℕ) → permitted password ≡ true → length password ≤ 20
 short password h = (between_true 6 20 (length password) (both_true (password_size password) (all graphic password) h).0).1
 
-pub password_block_lem : (password : List ℕ) → permitted password ≡ true → Block 24 (password_block password)
+pub password_block_sized : (password : List ℕ) → permitted password ≡ true → Block 24 (password_block password)
 unfolding password_block
-password_block_lem password h =
+password_block_sized password h =
     let graphics = (both_true (password_size password) (all graphic password) h).1 in
     record {
       size = framed_length 24 0xFF password (omega (arith, short password h));
@@ -39,5 +39,5 @@ password_block_lem password h =
 pub read_back : ReadsBack 24 permitted make read
 unfolding make read password_block
 read_back =
-    made_reads_back 24 6 20 graphic password_block password_block_lem framed_text
+    made_reads_back 24 6 20 graphic password_block password_block_sized framed_text
     (λ password h. framed_back 24 0xFF password (omega (arith, short password h)) (omega (arith, short password h)))

@@ -1,68 +1,41 @@
 // Internet passwords and their blocks, in the clear (02, M-102; source document 003, 5.5).
 #![tactic(auto)]
 
-ghost use Rattle.std.specs.Prelude.{◌≡◌, ◌≤◌, length};
-ghost use Rattle.lent.specs.ReadsBack.{gives};
-ghost use Rattle.lent.specs.Result.{Written};
+ghost use Rattle.std.specs.Prelude.{◌≡◌};
+ghost use Rattle.lent.specs.Result.{Writes};
 ghost use Rattle.password.specs.Password;
 
-// Whether a password has 6 to 20 characters.
-fn password_sized(password: &[u8]) -> bool
-    ensures { result ≡ Password.password_size password.now }
-{
-    lent::sized(6, 20, password)
-}
+use lent::{Kind, Refusal};
 
-// The block of a password: two decimal characters of length, its characters, then FF up to 24 bytes.
-fn password_block(password: &[u8]) -> [u8; 24]
-    requires { length password.now ≤ 20 }
-    ensures { result ≡ Password.password_block password.now }
+// The block of a password: two decimal characters of length, its characters, then FF up to 24 bytes. Refuses with 6 if the password does not
+// have 6 to 20 characters, 7 if one is not from 21 to 7E hex.
+fn block_of(password: &[u8]) -> Result<[u8; 24], Refusal>
+    ensures { result ≡ Password.make password.now }
 {
-    let mut block = [0xFFu8; 24];
-    let digits = lent::two_digits(password.len());
-    lent::append(&mut block, 0, &digits);
-    lent::append(&mut block, 2, password);
-    block
+    lent::permitted(6, 20, Kind::Graphic, password)?;
+    Ok(lent::framed(0xFF, password))
 }
 
 // Writes the block of a password. Refuses with 6 if the password does not have 6 to 20 characters, 7 if one is not from 21 to 7E hex, 13 if the
 // memory is shorter than the block.
-pub fn make(password: &[u8], out: &mut [u8]) -> lent::Answer
-    ensures { Written (Password.make password.now) out.old result.number result.length out.new }
+pub fn make(password: &[u8], out: &mut [u8]) -> Result<usize, Refusal>
+    ensures { Writes (Password.make password.now) out.old result out.new }
 {
-    if !password_sized(password) {
-        return lent::refused(lent::SIZE);
-    }
-    if !lent::all_of_kind(lent::Kind::Graphic, password) {
-        return lent::refused(lent::CHARACTER);
-    }
-    let block = password_block(password);
-    lent::lend(&block, out)
-}
-
-// Whether making gives this block.
-fn makes(password: &[u8], block: &[u8]) -> bool
-    ensures { result ≡ gives (Password.make password.now) block.now }
-{
-    let mut made = [0u8; 24];
-    let answer = make(password, &mut made);
-    if answer.number != lent::DONE {
-        return false;
-    }
-    lent::same(block, &made)
+    lent::lend(&block_of(password)?, out)
 }
 
 // Writes the password of a block. Refuses with 6 if the block does not have 24 bytes, 8 if it comes from no permitted password, 13 if the memory is
 // shorter than the password.
-pub fn read(block: &[u8], out: &mut [u8]) -> lent::Answer
-    ensures { Written (Password.read block.now) out.old result.number result.length out.new }
+pub fn read(block: &[u8], out: &mut [u8]) -> Result<usize, Refusal>
+    ensures { Writes (Password.read block.now) out.old result out.new }
 {
     if block.len() != 24 {
-        return lent::refused(lent::SIZE);
+        return Err(Refusal::Size);
     }
     let password = lent::framed_text(block);
-    if !makes(password, block) {
-        return lent::refused(lent::BAD_BLOCK);
+    // a VIP number is read by the same four lines: one function with a maker for each would be no plainer
+    match block_of(password) {
+        Ok(made) if lent::same(block, &made) => lent::lend(password, out),
+        _ => Err(Refusal::BadBlock),
     }
-    lent::lend(password, out)
 }

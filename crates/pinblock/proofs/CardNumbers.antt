@@ -14,7 +14,7 @@ use Rattle.lent.proofs.Laws.{between_true}
 use Rattle.lent.proofs.HalfBytes.{half_byte, values_half_bytes, low_digits}
 use Rattle.lent.proofs.Lists.{all_take, all_drop}
 use Rattle.pinblock.specs.CardNumber.{rightmost_twelve, card_half_bytes, card_part}
-use Rattle.pinblock.proofs.HalfBytes.{word_lt, word_of_lem}
+use Rattle.pinblock.proofs.HalfBytes.{word_lt, word_from_half_bytes}
 
 pub card_long : (card : List ℕ) → card_size card ≡ true → 13 ≤ length card
 card_long card h = (between_true 13 19 (length card) h).0
@@ -30,13 +30,13 @@ module _ (card : List ℕ) (h : card_size card ≡ true) (d : all digit card ≡
       let twelve = length-take-le 12 (drop (length card - 13) card) (omega (arith, length-drop (length card - 13) card)) in
       omega (arith, length-map (rightmost_twelve card) digit_value)
 
-  card_half_bytes_lem : all half_byte (card_half_bytes card) ≡ true
+  card_all_half_bytes : all half_byte (card_half_bytes card) ≡ true
   unfolding card_half_bytes
-  card_half_bytes_lem = values_half_bytes (rightmost_twelve card) twelve_digits
+  card_all_half_bytes = values_half_bytes (rightmost_twelve card) twelve_digits
 
   pub card_part_lt : card_part card < 2 ^ 64
   unfolding card_part
-  card_part_lt = word_lt (card_half_bytes card) card_length card_half_bytes_lem
+  card_part_lt = word_lt (card_half_bytes card) card_length card_all_half_bytes
 
   -- the word of 0000 and the twelve characters from their first on
   pub card_word : (start : ℕ) → start ≡ length card - 13
@@ -44,7 +44,7 @@ module _ (card : List ℕ) (h : card_size card ≡ true) (d : all digit card ≡
   unfolding card_part card_half_bytes
   card_word start e =
       let count : start + 12 - start ≡ 12 = omega arith in
-      rw (count, e, low_digits (rightmost_twelve card) twelve_digits) (word_of_lem (card_half_bytes card) card_length card_half_bytes_lem)
+      rw (count, e, low_digits (rightmost_twelve card) twelve_digits) (word_from_half_bytes (card_half_bytes card) card_length card_all_half_bytes)
 
 -- a card number's twelve digits, by what stands before its last
 last_left_out : (before : List ℕ) (x : ℕ) → 12 ≤ length before → rightmost_twelve (before ++ x ∷ []) ≡ drop (length before - 12) before

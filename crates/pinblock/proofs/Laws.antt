@@ -28,8 +28,8 @@ use Rattle.pinblock.proofs.CardNumbers.{card_part_lt, last_digit}
 use Rattle.pinblock.proofs.Pins.{pin_block_lt, pin_candidate}
 
 -- the bytes of a word are a block
-block_of_lem : (x : ℕ) → Block 8 (word_bytes x)
-block_of_lem x = record { size = to_length 256 8 x; bytes = to_bytes 8 x }
+word_block : (x : ℕ) → Block 8 (word_bytes x)
+word_block x = record { size = to_length 256 8 x; bytes = to_bytes 8 x }
 
 -- a block is the bytes of its word
 module _ {block : List ℕ} (b : Block 8 block) where
@@ -61,7 +61,7 @@ module _ {forth back : ℕ → ℕ} {make read : List ℕ → Result (List ℕ)}
         block_of = λ pin. word_bytes (forth (pin_block pin));
         stands = λ block. candidate (to_base 16 16 (back (word block)));
         test = λ pin block. both (permitted pin) (eqb (pin_block pin) (back (word block)));
-        is_block = λ pin h. block_of_lem (forth (pin_block pin));
+        is_block = λ pin h. word_block (forth (pin_block pin));
         maker = c.maker;
         reader = c.reader;
         stands_back = λ pin h. rw (block_undone pin h) (pin_candidate pin h);
@@ -113,11 +113,11 @@ last_digit_free pin before x y h = ap (bit_xor (pin_block pin)) (last_digit befo
 
 module _ (key : List ℕ) (h : key_size key ≡ true) where
   -- for any maker and reader of clear blocks
-  under_key_lem : {forth back : ℕ → ℕ} {make read : List ℕ → Result (List ℕ)} → Changes forth back make read
+  under_key_back : {forth back : ℕ → ℕ} {make read : List ℕ → Result (List ℕ)} → Changes forth back make read
       → Changes (λ x. encrypted_under key (forth x)) (λ x. back (decrypted_under key x))
       (λ pin. under_key key (make pin)) (λ block. and_then (decrypt_block key block) read)
   unfolding under_key changed_block
-  under_key_lem {forth} {back} c =
+  under_key_back {forth} {back} c =
       let i = c.inverse in
       let j = decrypt_undoes_encrypt key in
       record {
@@ -134,16 +134,16 @@ module _ (key : List ℕ) (h : key_size key ≡ true) where
         reader = λ block b.
             let y = decrypted_under key (word block) in
             simp (eq-eqb (length block) 8 b.size, h)
-            (c.reader (word_bytes y) (block_of_lem y) ∙ rw (word_back y (j.back_lt (word block) (word_lt b))));
+            (c.reader (word_bytes y) (word_block y) ∙ rw (word_back y (j.back_lt (word block) (word_lt b))));
       }
 
   -- without a card number
   pub decrypt_back : ReadsBack 8 permitted (encrypt key) (decrypt key)
   unfolding encrypt decrypt
-  decrypt_back = changed_reads_back (under_key_lem clear)
+  decrypt_back = changed_reads_back (under_key_back clear)
 
   -- with a card number
   pub decrypt_back_with_card : (card : List ℕ) → card_size card ≡ true → all digit card ≡ true
       → ReadsBack 8 permitted (λ pin. encrypt_with_card key pin card) (λ block. decrypt_with_card key block card)
   unfolding encrypt_with_card decrypt_with_card
-  decrypt_back_with_card card k d = changed_reads_back (under_key_lem (with_card card k d))
+  decrypt_back_with_card card k d = changed_reads_back (under_key_back (with_card card k d))

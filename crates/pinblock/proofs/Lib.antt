@@ -5,3 +5,4 @@ mod Examples
 mod HalfBytes
 mod Pins
 mod Readings
+mod Writing

@@ -17,7 +17,7 @@ use Rattle.lent.proofs.HalfBytes.{half_byte, values_half_bytes, map_digits, low_
 use Rattle.lent.proofs.Lists.{all_append, all_replicate, take_replicate}
 use Rattle.pinblock.specs.Pin.{pin_size, permitted, pin_half_bytes, pin_block}
 use Rattle.pinblock.specs.Reading.{candidate}
-use Rattle.pinblock.proofs.HalfBytes.{word_lt, word_of_lem, half_bytes_of}
+use Rattle.pinblock.proofs.HalfBytes.{word_lt, word_from_half_bytes, half_bytes_of}
 
 -- ---- digits and their values
 
@@ -41,16 +41,16 @@ module _ (pin : List ℕ) (h : permitted pin ≡ true) where
   unfolding pin_half_bytes
   pin_length = simp (length-append, length-map, length-replicate) (omega (arith, pin_short))
 
-  pin_half_bytes_lem : all half_byte (pin_half_bytes pin) ≡ true
+  pin_all_half_bytes : all half_byte (pin_half_bytes pin) ≡ true
   unfolding pin_half_bytes
-  pin_half_bytes_lem =
+  pin_all_half_bytes =
       simp (lt-ltb (length pin) 16 (omega (arith, pin_short)))
       (rw (all_append half_byte (map digit_value pin) (replicate (14 - length pin) 15), values_half_bytes pin pin_digits)
       (all_replicate half_byte (14 - length pin) 15 refl))
 
   pub pin_block_lt : pin_block pin < 2 ^ 64
   unfolding pin_block
-  pin_block_lt = word_lt (pin_half_bytes pin) pin_length pin_half_bytes_lem
+  pin_block_lt = word_lt (pin_half_bytes pin) pin_length pin_all_half_bytes
 
   -- the block's half-bytes: 0 and the length, the digits, F up to sixteen
   pub start_word : length pin ≡ word_of (0 ∷ length pin ∷ [])
@@ -61,12 +61,12 @@ module _ (pin : List ℕ) (h : permitted pin ≡ true) where
   unfolding pin_block pin_half_bytes
   pin_word =
       rw (low_digits pin pin_digits, take_replicate (14 - length pin) 10 15 (omega (arith, pin_short)), low_fill (14 - length pin))
-      (word_of_lem (pin_half_bytes pin) pin_length pin_half_bytes_lem)
+      (word_from_half_bytes (pin_half_bytes pin) pin_length pin_all_half_bytes)
 
   -- the block has the PIN's half-bytes, and the PIN stands in them
   pub pin_candidate : candidate (to_base 16 16 (pin_block pin)) ≡ pin
   unfolding candidate pin_block pin_half_bytes
   pin_candidate =
-      rw (half_bytes_of (pin_half_bytes pin) pin_length pin_half_bytes_lem)
+      rw (half_bytes_of (pin_half_bytes pin) pin_length pin_all_half_bytes)
       (ap (map digit_of) (take_at (map digit_value pin) (replicate (14 - length pin) 15) (length pin) (length-map pin digit_value))
       ∙ digit_of_value pin pin_digits)

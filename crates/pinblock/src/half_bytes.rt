@@ -7,5 +7,6 @@ pub(crate) fn half_byte(x: u64, place: usize) -> u8
     requires { place < 16 }
     ensures { (result ≡ get_or (to_base 16 16 x) place 0) × (result < 16) }
 {
+    // u8 has no From<u64>; the value is below 16.
     ((x >> (60 - 4 * place)) % 16) as u8
 }

@@ -1,4 +1,5 @@
-// PIN blocks, clear and encrypted (01, PIN blocks).
+// PIN blocks, clear and encrypted (01, PIN blocks). The entries with a card number stand beside those without one, since each has its C entry and its
+// definition; what they share is in functions.
 #![tactic(auto)]
 
 mod card_number;

@@ -99,12 +99,12 @@ module _ {K : Type 0} (device : Device K) where
       let at = 21 * device.size in
       take at s ∷ take 4 (drop at s) ∷ take 10 (drop (at + 4) s) ∷ take 4 (drop (at + 14) s) ∷ take 1 (drop (at + 18) s) ∷ []
 
-  pub parts_at_lem : (s : List ℕ) → cut (part_sizes device) s ≡ parts_at s
-  parts_at_lem s = simp (drop-drop, add_assoc)
+  pub parts_cut : (s : List ℕ) → cut (part_sizes device) s ≡ parts_at s
+  parts_cut s = simp (drop-drop, add_assoc)
 
   pub state_parts : (s : List ℕ) → state_of device s ≡ state_of_parts device (parts_at s)
   unfolding state_of
-  state_parts s = ap (state_of_parts device) (parts_at_lem s)
+  state_parts s = ap (state_of_parts device) (parts_cut s)
 
   -- a record whose registers and the rest were read
   pub state_read : (bytes : List ℕ) {keys : List K} {serial : List ℕ} {p : Position} → let rest = cut rest_sizes (drop (21 * device.size) bytes) in
@@ -148,14 +148,14 @@ module _ {K : Type 0} (device : Device K) where
     -- ---- the parts of a record
 
     module _ (s : State K) (registers : length s.keys ≡ 21) (serial : length s.serial ≡ 10) where
-      pub part_sizes_lem : map length (record_parts device s) ≡ part_sizes device
-      part_sizes_lem =
+      pub sizes_of_parts : map length (record_parts device s) ≡ part_sizes device
+      sizes_of_parts =
           let first : length (register_bytes device s.keys) ≡ 21 * device.size = register_length s.keys ∙ rw registers (omega arith) in
           rw (first, to_length 256 4 s.filled, serial, to_length 256 4 s.counter)
 
       pub record_length : length (record_bytes device s) ≡ record_size device
       unfolding record_bytes
-      record_length = joined_length (record_parts device s) ∙ ap total part_sizes_lem
+      record_length = joined_length (record_parts device s) ∙ ap total sizes_of_parts
 
       -- registers and the rest, written one after the other, fill a record's bytes
       pub record_put : (before : List ℕ) {mid after : List ℕ} {k r : ℕ} → length before ≡ record_size device

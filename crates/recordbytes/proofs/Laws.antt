@@ -24,7 +24,7 @@ use Rattle.registers.proofs.Laws.{Lawful, ReadBack}
 use Rattle.recordbytes.specs.RecordBytes.{part_sizes, record_size, last_place, exhausted_byte, record_parts, record_bytes, state_of_parts, state_of, ValidBytes}
 use Rattle.recordbytes.specs.Parts.{joined, cut}
 use Rattle.recordbytes.specs.Calls.{next_key_of}
-use Rattle.recordbytes.proofs.Bytes.{parts_at_lem, state_parts, last_part, number_back, bytes_back, registers_back, register_bytes_back, registers_length, registers_read_back, number_lt, part_sizes_lem, record_length, exhausted_back, exhausted_le, exhausted_byte_back}
+use Rattle.recordbytes.proofs.Bytes.{parts_cut, state_parts, last_part, number_back, bytes_back, registers_back, register_bytes_back, registers_length, registers_read_back, number_lt, sizes_of_parts, record_length, exhausted_back, exhausted_le, exhausted_byte_back}
 use Rattle.recordbytes.proofs.Cutting.{cut_joined, joined_cut}
 
 module _ {K : Type 0} (device : Device K) where
@@ -81,13 +81,13 @@ module _ {K : Type 0} (device : Device K) where
       cut_written : cut (part_sizes device) (record_bytes device s) ≡ record_parts device s
       unfolding record_bytes
       cut_written =
-          ap (λ sizes. cut sizes (joined (record_parts device s))) (sym (part_sizes_lem device lawful s fits.registers fits.serial))
+          ap (λ sizes. cut sizes (joined (record_parts device s))) (sym (sizes_of_parts device lawful s fits.registers fits.serial))
           ∙ cut_joined (record_parts device s)
 
       last_byte : get_or (record_bytes device s) (last_place device) 0 ≤ 1
       last_byte =
           let last = last_part device (record_bytes device s) written_length in
-          let fifth = ap (λ parts. get_or parts 4 []) (sym (parts_at_lem device (record_bytes device s)) ∙ cut_written) in
+          let fifth = ap (λ parts. get_or parts 4 []) (sym (parts_cut device (record_bytes device s)) ∙ cut_written) in
           let e : get_or (record_bytes device s) (last_place device) 0 ≡ exhausted_byte s.exhausted = cc in
           rw e (exhausted_le s.exhausted)
 
@@ -120,7 +120,7 @@ module _ {K : Type 0} (device : Device K) where
           let registers = register_bytes_back device lawful 21 (take at bytes) (omega arith) (digits_take 256 at bytes d) in
           ap (record_bytes device) (state_parts device bytes)
           ∙ rw (last, registers, bytes_back 4 at bytes (omega arith) d, bytes_back 4 (at + 14) bytes (omega arith) d, exhausted_byte_back _ h)
-          (rw last at (ap joined (sym (parts_at_lem device bytes)) ∙ joined_cut (part_sizes device) bytes long))
+          (rw last at (ap joined (sym (parts_cut device bytes)) ∙ joined_cut (part_sizes device) bytes long))
 
       -- what is read fits
       pub read_fits : Fits (state_of device bytes)

@@ -6,7 +6,7 @@ use Prim.Native.Nat.{ℕ, zero, suc, ◌^◌, ◌<◌}
 use lib.Dec.{eqb, leb}
 use lib.ListN.{length, take}
 use Rattle.lent.specs.Choice.{both}
-use Rattle.lent.specs.Refusals.{Refusal}
+use Rattle.lent.specs.declared.refusals.Refusal.{Refusal}
 use Rattle.lent.specs.Result.{done, refused, number, over, of_done, Written}
 use Rattle.lent.proofs.Laws.{cases}
 use Rattle.lent.proofs.Results.{same_done, written_done}

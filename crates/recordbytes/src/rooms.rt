@@ -6,8 +6,5 @@ ghost use Rattle.lent.specs.Choice.{both};
 pub fn enough(key_size: usize, key: &[u8], serial_number: &[u8]) -> bool
     ensures { result ≡ both (leb key_size (length key.now)) (leb 10 (length serial_number.now)) }
 {
-    if key.len() < key_size {
-        return false;
-    }
-    10 <= serial_number.len()
+    key_size <= key.len() && 10 <= serial_number.len()
 }

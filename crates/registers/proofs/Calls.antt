@@ -10,7 +10,8 @@ use native.Mathlib.Omega.{arith}
 use lib.Dec.{eqb}
 use lib.ListN.{length, replicate}
 use Rattle.lent.specs.Refusals as refusals
-use Rattle.lent.specs.Refusals.{Refusal, number_of}
+use Rattle.lent.specs.Refusals.{number_of}
+use Rattle.lent.specs.declared.refusals.Refusal.{Refusal}
 use Rattle.lent.specs.Result.{Result, done, refused, number, require, and_then, over, of_done}
 use Rattle.lent.proofs.Laws.{cases}
 use Rattle.registers.specs.SerialNumber.{with_counter}

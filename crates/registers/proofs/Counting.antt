@@ -42,9 +42,9 @@ module _ (test : ℕ → Bool) where
       (λ h. by_cases (dec_lt d c) (λ q. absurd (omega (arith, count_lt d c q x))) (λ q. omega arith))
 
   -- the count grows by ones, so it comes by each number
-  pub count_below_lem : (x n : ℕ) → 1 ≤ n → n ≤ count_to test x → (c : ℕ) × (test c ≡ true) × (count_to test c ≡ n)
+  pub some_counted : (x n : ℕ) → 1 ≤ n → n ≤ count_to test x → (c : ℕ) × (test c ≡ true) × (count_to test c ≡ n)
   unfolding count_to
-  count_below_lem zero n p q = absurd (omega arith)
-  count_below_lem (suc x) n p q =
-      by_cases (dec_le n (count_to test x)) (λ h. count_below_lem x n p h)
+  some_counted zero n p q = absurd (omega arith)
+  some_counted (suc x) n p q =
+      by_cases (dec_le n (count_to test x)) (λ h. some_counted x n p h)
       (λ h. cases (test (suc x)) (λ e. (suc x, e, omega (arith, count_hit x e))) (λ e. absurd (omega (arith, count_miss x e))))

@@ -17,7 +17,7 @@ use Rattle.cipher.specs.Des.{encrypted, decrypted}
 use Rattle.cipher.specs.Schedule.{round_keys}
 use Rattle.cipher.specs.Triple.{triple_encrypted, triple_decrypted}
 use Rattle.cipher.proofs.Laws.{round_keys_same, triple_encrypted_single, triple_decrypted_single}
-use Rattle.parity.proofs.LowBits.{each_byte, same_bytes_lem}
+use Rattle.parity.proofs.LowBits.{each_byte, same_from_bytes}
 use Rattle.registers.specs.Counters.{counter_permitted}
 use Rattle.registers.specs.SerialNumber.{counter_of}
 use Rattle.registers.specs.Device.{Device}
@@ -32,11 +32,11 @@ module _ (derivation : List ℕ) (bytes : Digits 256 derivation) where
   halves_same =
       let at : (k : ℕ) → get_or (drop 8 derivation) k 0 / 2 ≡ get_or derivation (8 + k) 0 / 2 = λ k. rw (get_or-drop 8 derivation k 0) in (
         λ e k h. each_byte derivation (drop 8 derivation) bytes right_bytes 8 e k h ∙ at k,
-        λ f. same_bytes_lem derivation (drop 8 derivation) bytes right_bytes 8 (λ k h. f k h ∙ sym (at k)),
+        λ f. same_from_bytes derivation (drop 8 derivation) bytes right_bytes 8 (λ k h. f k h ∙ sym (at k)),
       )
 
-  round_keys_lem : (same_halves derivation ≡ true) ↔ (round_keys (left derivation) ≡ round_keys (right derivation))
-  round_keys_lem =
+  halves_round_keys : (same_halves derivation ≡ true) ↔ (round_keys (left derivation) ≡ round_keys (right derivation))
+  halves_round_keys =
       round_keys_same (left derivation) (right derivation) (from_lt 256 8 derivation bytes) (from_lt 256 8 (drop 8 derivation) right_bytes)
 
 -- ---- refused with 9
@@ -83,6 +83,6 @@ module _ {K : Type 0} (device : Device K) (derivation serial : List ℕ) where
   pub refused_exactly : Digits 256 derivation → length derivation ≡ 16 → length serial ≡ 10
       → (number (initial_key device derivation serial) ≡ 9) ↔ (round_keys (left derivation) ≡ round_keys (right derivation))
   refused_exactly bytes k s = (
-    λ e. (round_keys_lem derivation bytes).0 (initial_third.0 e).2,
-    λ e. initial_third.1 (eq-eqb _ _ k, eq-eqb _ _ s, (round_keys_lem derivation bytes).1 e),
+    λ e. (halves_round_keys derivation bytes).0 (initial_third.0 e).2,
+    λ e. initial_third.1 (eq-eqb _ _ k, eq-eqb _ _ s, (halves_round_keys derivation bytes).1 e),
   )

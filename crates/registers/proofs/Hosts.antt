@@ -6,9 +6,11 @@ use mathlib.Core.Bool.{Bool, true, false, not}
 use Prim.Native.Nat.{ℕ}
 use lib.Dec.{eqb}
 use lib.ListN.{length}
-use Rattle.lent.specs.Refusals.{Refusal, size, equal_halves, bad_counter}
+use Rattle.lent.specs.Refusals.{size, equal_halves, bad_counter}
+use Rattle.lent.specs.declared.refusals.Refusal.{Refusal}
 use Rattle.lent.specs.Result.{Result, done, refused, number, require}
-use Rattle.lent.proofs.Results.{Refuses, not_zero, same_done}
+use Rattle.lent.proofs.Laws.{never}
+use Rattle.lent.proofs.Results.{Refuses, not_zero, same_done, number_refuses}
 use Rattle.registers.specs.Counters.{Permitted}
 use Rattle.registers.specs.SerialNumber.{counter_of, with_counter, cleared_head}
 use Rattle.registers.specs.RegisterKey.{register_key}
@@ -22,42 +24,43 @@ use Rattle.registers.proofs.SerialNumbers.{length_with, counter_with, tail_with,
 
 -- A derivation key of 16 bytes whose halves differ without low bits, and a serial number of 10 bytes.
 pub record Fit (derivation serial : List ℕ) : Type 0 where
-  pub key_size_lem : length derivation ≡ 16
+  pub key_has_sixteen : length derivation ≡ 16
   pub serial_size : length serial ≡ 10
   pub differ : same_halves derivation ≡ false
 
 -- a test that a number 0 has passed
-passed : (test : Bool) (why : Refusal) (r : Result (List ℕ)) → number (require test why r) ≡ 0 → (test ≡ true) × (number r ≡ 0)
+passed : {A : Type 0} (test : Bool) (why : Refusal) (r : Result A) → number (require test why r) ≡ 0 → (test ≡ true) × (number r ≡ 0)
 passed true why r z = (refl, z)
 passed false why r z = absurd (not_zero why z)
 
 -- three tests refuse alike, whatever comes after them
-tests : (a b c : Bool) {num : ℕ} (x : List ℕ) (r : Result (List ℕ)) → num ≡ number (require a size (require b size (require c equal_halves (done x))))
-    → ¬ (num ≡ 0) → Refuses num (require a size (require b size (require c equal_halves r)))
-tests false b c x r e h = (size, e, refl)
-tests true false c x r e h = (size, e, refl)
-tests true true false x r e h = (equal_halves, e, refl)
-tests true true true x r e h = absurd (h e)
+tests : {A B : Type 0} (a b c : Bool) {why : Refusal} (x : A) (r : Result B)
+    → require a size (require b size (require c equal_halves (done x))) ≡ refused why
+    → require a size (require b size (require c equal_halves r)) ≡ refused why
+tests false b c x r e = cc
+tests true false c x r e = cc
+tests true true false x r e = cc
+tests true true true x r e = never (cc)
 
 module _ (derivation serial : List ℕ) where
   -- the tests pass exactly if the two fit
-  fits_derivable : Fit derivation serial → (r : Result (List ℕ)) → derivable derivation serial r ≡ r
+  fits_derivable : Fit derivation serial → {A : Type 0} (r : Result A) → derivable derivation serial r ≡ r
   unfolding derivable
-  fits_derivable f r = simp (f.key_size_lem, f.serial_size, f.differ)
+  fits_derivable f r = simp (f.key_has_sixteen, f.serial_size, f.differ)
 
-  derivable_fit : (r : Result (List ℕ)) → number (derivable derivation serial r) ≡ 0 → Fit derivation serial
+  derivable_fit : {A : Type 0} (r : Result A) → number (derivable derivation serial r) ≡ 0 → Fit derivation serial
   unfolding derivable
   derivable_fit r z =
       let k = passed (eqb (length derivation) 16) _ _ z in
       let s = passed (eqb (length serial) 10) _ _ k.1 in
       let h = passed (not (same_halves derivation)) equal_halves r s.1 in
-      record { key_size_lem = eqb-true _ _ k.0; serial_size = eqb-true _ _ s.0; differ = not-true _ h.0 }
+      record { key_has_sixteen = eqb-true _ _ k.0; serial_size = eqb-true _ _ s.0; differ = not-true _ h.0 }
 
   -- and refuse whatever comes after them
-  derivable_refuses : {num : ℕ} (r : Result (List ℕ)) → num ≡ number (derivable derivation serial (done [])) → ¬ (num ≡ 0)
-      → Refuses num (derivable derivation serial r)
+  pub derivable_refuses : {A B : Type 0} {why : Refusal} (x : A) (r : Result B) → derivable derivation serial (done x) ≡ refused why
+      → derivable derivation serial r ≡ refused why
   unfolding derivable
-  derivable_refuses r e h = tests (eqb (length derivation) 16) (eqb (length serial) 10) (not (same_halves derivation)) [] r e h
+  derivable_refuses x r e = tests (eqb (length derivation) 16) (eqb (length serial) 10) (not (same_halves derivation)) x r e
 
 module _ {K : Type 0} (device : Device K) (derivation serial : List ℕ) where
   -- they have an initial key, and only they
@@ -69,18 +72,31 @@ module _ {K : Type 0} (device : Device K) (derivation serial : List ℕ) where
   unfolding initial_key
   fit e = derivable_fit derivation serial _ (ap number e)
 
-  -- by the number that the tests give: the refusal of both keys, or that there is an initial key
-  module _ {num : ℕ} (tested : num ≡ number (derivable derivation serial (done []))) where
-    pub initial_refuses : ¬ (num ≡ 0) → Refuses num (initial_key device derivation serial)
-    unfolding initial_key
-    initial_refuses h = derivable_refuses derivation serial _ tested h
+  -- by what the tests answer: the refusal of both keys, or that there is an initial key
+  pub initial_refuses : {A : Type 0} (x : A) {why : Refusal} → derivable derivation serial (done x) ≡ refused why
+      → initial_key device derivation serial ≡ refused why
+  unfolding initial_key
+  initial_refuses x e = derivable_refuses derivation serial x (done (device.bytes (initial_of device derivation serial))) e
 
-    pub host_refuses : ¬ (num ≡ 0) → Refuses num (host_key device derivation serial)
-    unfolding host_key
-    host_refuses h = derivable_refuses derivation serial _ tested h
+  pub host_refuses : {A : Type 0} (x : A) {why : Refusal} → derivable derivation serial (done x) ≡ refused why
+      → host_key device derivation serial ≡ refused why
+  unfolding host_key
+  host_refuses x e = derivable_refuses derivation serial x _ e
 
-    pub tested_fit : num ≡ 0 → Fit derivation serial
-    tested_fit z = derivable_fit derivation serial _ (sym tested ∙ z)
+  pub tested_fit : {A : Type 0} (x : A) {y : A} → derivable derivation serial (done x) ≡ done y → Fit derivation serial
+  tested_fit x e = derivable_fit derivation serial (done x) (ap number e)
+
+  -- the same by the number of what they answer
+  module _ {num : ℕ} (tested : num ≡ number {A = List ℕ} (derivable derivation serial (done []))) where
+    pub initial_refuses_number : ¬ (num ≡ 0) → Refuses num (initial_key device derivation serial)
+    initial_refuses_number h =
+        let k = number_refuses {A = List ℕ} (derivable derivation serial (done [])) num tested h in
+        (k.0, k.1, initial_refuses {A = List ℕ} [] k.2)
+
+    pub host_refuses_number : ¬ (num ≡ 0) → Refuses num (host_key device derivation serial)
+    host_refuses_number h =
+        let k = number_refuses {A = List ℕ} (derivable derivation serial (done [])) num tested h in
+        (k.0, k.1, host_refuses {A = List ℕ} [] k.2)
 
   -- the host's key is decided by the counter
   module _ (f : Fit derivation serial) where
@@ -109,7 +125,7 @@ pub host_done : {K : Type 0} (device : Device K) (derivation serial : List ℕ) 
     → host_key device derivation (with_counter serial c) ≡ done (given_key device derivation serial c)
 host_done device derivation serial c ok f =
     let same = counter_with serial c ok.fits in
-    let fits : Fit derivation (with_counter serial c) = record { key_size_lem = f.key_size_lem; serial_size = length_with serial c; differ = f.differ } in
+    let fits : Fit derivation (with_counter serial c) = record { key_has_sixteen = f.key_has_sixteen; serial_size = length_with serial c; differ = f.differ } in
     rw (host_counted device derivation (with_counter serial c) fits (rw same ok), same)
     (ap₂ (λ (h t : ℕ). done (device.bytes (device.variant (register_key device.one_way (device.initial derivation h) t c))))
     (head_with serial c) (tail_with serial c))

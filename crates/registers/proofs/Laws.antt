@@ -24,7 +24,7 @@ pub use Rattle.registers.proofs.Deriving.{bits_moved, bit_moved, derive_turn, de
 -- the serial number with its counter replaced
 pub use Rattle.registers.proofs.SerialNumbers.{tail_clear, with_with, length_with, counter_with, tail_with, head_with}
 -- how many numbers have few one bits, by Pascal's rule
-pub use Rattle.registers.proofs.Total.{count_below, below_same, below_none, below_split, few_ones, few_in, few_above, few_in_lem, total}
+pub use Rattle.registers.proofs.Total.{count_below, below_same, below_none, below_split, few_ones, few_in, few_above, few_counted, total}
 -- there is at most one n-th smallest permitted counter
 pub use Rattle.registers.proofs.Order.{passes, fails, nth_unique}
 use mathlib.Core.Path.{◌≡◌}

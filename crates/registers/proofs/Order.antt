@@ -12,7 +12,7 @@ use lib.Dec.{lit<, lit≤}
 use lib.Pow.{pow_pos, pow_mono, shr_lt, shl-shr}
 use lib.Count.{ones, ones_cat, ones-ones, ones-le}
 use Rattle.registers.specs.Counters.{Permitted, permitted?, counter_permitted, count_to, permitted_to, Nth, last_counter, lowest_place, next_after, next_counter}
-use Rattle.registers.proofs.Counting.{count_hit, count_gap, count_mono, count_lt, count_unique, count_below_lem}
+use Rattle.registers.proofs.Counting.{count_hit, count_gap, count_mono, count_lt, count_unique, some_counted}
 use Rattle.registers.proofs.Bits.{Lowest, lowest, place_lt, ones_pos, ones_odd, ones_shl, ones_suc, twice}
 
 -- ---- the count
@@ -45,7 +45,7 @@ nth_before n c x nth = (
 
 -- each n up to the count of x has one
 pub nth_below : (x n : ℕ) → 1 ≤ n → n ≤ permitted_to x → (c : ℕ) × Nth n c
-nth_below x n p q = let h = count_below_lem counter_permitted x n p q in (h.0, record { permitted = passed h.0 h.1; number = h.2 })
+nth_below x n p q = let h = some_counted counter_permitted x n p q in (h.0, record { permitted = passed h.0 h.1; number = h.2 })
 
 -- ---- the first and the last counter
 

@@ -5,7 +5,7 @@ use Prim.Native.Nat.{ℕ}
 use lib.Dec.{leb}
 use lib.ListN.{length, take, drop, replicate}
 use lib.Seq.{take-append_seam, drop_at}
-use Rattle.lent.specs.Refusals.{Refusal}
+use Rattle.lent.specs.declared.refusals.Refusal.{Refusal}
 use Rattle.lent.specs.Result.{done, refused, number, over, of_done, Answered}
 use Rattle.lent.proofs.Results.{same_done, answered_done, number_done}
 use Rattle.registers.specs.Device.{Device}

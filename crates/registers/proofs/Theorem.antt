@@ -6,7 +6,8 @@ use Prim.Native.Nat.{ℕ, ◌<◌}
 use native.Mathlib.Omega.{arith}
 use lib.ListN.{length}
 use Rattle.lent.specs.Result.{Result, done, refused}
-use Rattle.lent.specs.Refusals.{Refusal, number_of, exhausted, short_buffer}
+use Rattle.lent.specs.Refusals.{number_of, exhausted, short_buffer}
+use Rattle.lent.specs.declared.refusals.Refusal.{Refusal}
 use Rattle.lent.proofs.Results.{not_zero}
 use Rattle.registers.specs.Counters.{Permitted, counter_total}
 use Rattle.registers.specs.SerialNumber.{with_counter}

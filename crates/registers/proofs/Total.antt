@@ -64,14 +64,14 @@ few_one : (m : ℕ) → count_below (few_ones (suc m)) 1 ≡ 1
 unfolding count_below ones
 few_one m = rw (lt-ltb 0 (suc m) (zero-lt-suc m)) refl
 
-pub few_in_lem : (w m : ℕ) → count_below (few_ones m) (2 ^ w) ≡ few_in w m
+pub few_counted : (w m : ℕ) → count_below (few_ones m) (2 ^ w) ≡ few_in w m
 unfolding few_in
-few_in_lem w zero = below_none (few_ones 0) (2 ^ w) (λ y l. le-ltb (ones y) 0 zero-le)
-few_in_lem zero (suc m) = few_one m
-few_in_lem (suc w) (suc m) =
+few_counted w zero = below_none (few_ones 0) (2 ^ w) (λ y l. le-ltb (ones y) 0 zero-le)
+few_counted zero (suc m) = few_one m
+few_counted (suc w) (suc m) =
     let double : 2 ^ suc w ≡ 2 ^ w + 2 ^ w = omega (arith, pow-suc 2 w) in
     ap (count_below (few_ones (suc m))) double ∙ below_split (few_ones (suc m)) (2 ^ w) (2 ^ w)
-    ∙ ap₂ (λ (x y : ℕ). x + y) (few_in_lem w (suc m)) (few_above w m (2 ^ w) (le_refl (2 ^ w)) ∙ few_in_lem w m)
+    ∙ ap₂ (λ (x y : ℕ). x + y) (few_counted w (suc m)) (few_above w m (2 ^ w) (le_refl (2 ^ w)) ∙ few_counted w m)
 
 -- ---- permitted counters
 
@@ -97,7 +97,7 @@ pub total : permitted_to last_counter ≡ counter_total
 total =
     let last : permitted_to (2 ^ 21 - 1) ≡ permitted_to last_counter =
     count_gap counter_permitted last_counter (2 ^ 21 - 1) (lit≤ tt) (λ x p q. fails (λ ok. omega (arith, permitted_le x ok))) in
-    omega (arith, count_few (2 ^ 21 - 1) (lit< tt), ap (count_below (few_ones 11)) (suc_ones 21), few_in_lem 21 11, all_few)
+    omega (arith, count_few (2 ^ 21 - 1) (lit< tt), ap (count_below (few_ones 11)) (suc_ones 21), few_counted 21 11, all_few)
 
 -- a permitted counter's number is at most that
 pub count_most : (c : ℕ) → Permitted c → permitted_to c ≤ counter_total

@@ -3,7 +3,8 @@
 use Rattle.std.specs.Prelude.{◌≡◌, Bool, true, false, ◌⊎◌, ℕ, suc, ◌≤◌, ◌<◌, length}
 use mathlib.Core.List.{List, ◌∷◌, ◌++◌, Memᴰ}
 use Rattle.lent.specs.Result.{Result, done, refused}
-use Rattle.lent.specs.Refusals.{Refusal, number_of}
+use Rattle.lent.specs.Refusals.{number_of}
+use Rattle.lent.specs.declared.refusals.Refusal.{Refusal}
 use Rattle.lent.specs.Refusals as refusals
 use Rattle.registers.specs.Counters.{Permitted, Nth, counter_total}
 use Rattle.registers.specs.SerialNumber.{with_counter}

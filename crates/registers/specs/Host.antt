@@ -1,7 +1,7 @@
 -- The host's two derivations (01, Terminal keys), with their refusals in order, for any device.
 use Rattle.std.specs.Prelude.{Bool, not, List, ℕ, eqb, length}
 use Rattle.lent.specs.Refusals.{size, equal_halves, bad_counter}
-use Rattle.lent.specs.Result.{Result, done, require}
+use Rattle.lent.specs.Result.{Result, done, require, and_then}
 use Rattle.lent.specs.Words.{left, right}
 use Rattle.cipher.specs.Keys.{same_key}
 use Rattle.registers.specs.Counters.{counter_permitted}
@@ -15,11 +15,15 @@ same_halves derivation = same_key (left derivation) (right derivation)
 
 -- the result, if a key can be derived from a derivation key and a serial number, or the refusal: 6 for another size, 9 for halves that agree
 -- without low bits
-unfoldable pub derivable : List ℕ → List ℕ → Result (List ℕ) → Result (List ℕ)
+unfoldable pub derivable : {A : Type 0} → List ℕ → List ℕ → Result A → Result A
 derivable derivation serial r =
     require (eqb (length derivation) 16) size
     (require (eqb (length serial) 10) size
     (require (not (same_halves derivation)) equal_halves r))
+
+-- the bytes of a key that was derived; a refusal stays
+abbrev pub key_bytes : {K : Type 0} → Device K → Result K → Result (List ℕ)
+key_bytes device r = and_then r (λ key. done (device.bytes key))
 
 module _ {K : Type 0} (device : Device K) (derivation serial : List ℕ) where
   -- the initial key

@@ -1,5 +1,5 @@
 // The counters of a DUKPT terminal: which are permitted, which comes next, and which registers they fill.
-ghost use Rattle.std.specs.Prelude.{◌≡◌, true, ◌↔◌};
+ghost use Rattle.std.specs.Prelude.{◌≡◌, true, ◌↔◌, ◌<◌, MatchOption};
 ghost use Rattle.registers.specs.Counters as Counters;
 ghost use Rattle.registers.specs.Machine as Machine;
 
@@ -13,36 +13,56 @@ const COUNTER_RANGE: u32 = 0x200000;
 pub fn permitted(c: u32) -> bool
     ensures { (result ≡ true) ↔ Counters.Permitted c }
 {
-    if c == 0 {
-        return false;
+    0 < c && c < COUNTER_RANGE && c.count_ones() <= 10
+}
+
+// A counter that a terminal may give out.
+#[derive(Clone, Copy)]
+pub struct Counter {
+    pub value: u32,
+    ghost permitted: { Counters.Permitted value },
+}
+
+impl Counter {
+    // The counter c, if a terminal may give it out.
+    pub fn new(c: u32) -> Option<Counter>
+        ensures { MatchOption result (¬ Counters.Permitted c) (λ counter. counter.value ≡ c) }
+    {
+        if permitted(c) {
+            Some(Counter { value: c })
+        } else {
+            None
+        }
     }
-    if COUNTER_RANGE <= c {
-        return false;
+
+    // The register that holds its key when it is next.
+    pub fn place(self) -> usize
+        ensures value { result ≡ Counters.lowest_place self.value }
+        ensures bound { result < 21 }
+    {
+        lowest_place(self.value)
     }
-    if 10 < u32::count_ones(c) {
-        return false;
-    }
-    true
 }
 
 // The place of the lowest one bit of c: the register that holds the key of c when c is next. It is 32 for 0.
 pub fn lowest_place(c: u32) -> usize
     ensures { result ≡ Counters.lowest_place c }
 {
-    u32::trailing_zeros(c) as usize
+    c.trailing_zeros() as usize
 }
 
 // The counter that is next once c was given out, or 0 when there is none: below ten one bits c + 1, at ten c and its lowest one bit.
+// 0 and no Option: an exhausted record holds the counter 0 (specs/Counters.antt: next_counter).
 pub(crate) fn next_counter(c: u32) -> u32
     ensures { result ≡ Counters.next_counter c }
 {
     if LAST_COUNTER <= c {
-        return 0;
+        0
+    } else if c.count_ones() < 10 {
+        c + 1
+    } else {
+        c + (1u32 << c.trailing_zeros())
     }
-    if u32::count_ones(c) < 10 {
-        return c + 1;
-    }
-    c + (1u32 << u32::trailing_zeros(c))
 }
 
 // The registers that are filled while the counter c is next, bit b for register b; none for 0.
@@ -50,10 +70,8 @@ pub(crate) fn filled_mask(c: u32) -> u32
     ensures { result ≡ Machine.filled_mask c }
 {
     if c == 0 {
-        return 0;
+        0
+    } else {
+        COUNTER_RANGE.saturating_sub(c)
     }
-    if COUNTER_RANGE <= c {
-        return 0;
-    }
-    COUNTER_RANGE - c
 }

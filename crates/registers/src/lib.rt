@@ -8,7 +8,7 @@ mod derivations;
 mod positions;
 mod serial_number;
 
-pub use counters::{lowest_place, permitted};
+pub use counters::{Counter, lowest_place, permitted};
 pub use derivations::derivable;
-pub use positions::{Position, in_order, position_after, position_at};
-pub use serial_number::{cleared_head, cleared_tail, counter_of, with_counter};
+pub use positions::Position;
+pub use serial_number::{Tail, cleared_head, cleared_tail, counter_of, with_counter};

@@ -1,14 +1,14 @@
 // The serial number and the counter in it. Past the end of a short one stand zeros.
-ghost use Rattle.std.specs.Prelude.{◌≡◌, ◌+◌, ◌*◌, ◌/◌, ◌%◌, ◌^◌};
+ghost use Rattle.std.specs.Prelude.{◌≡◌, ◌+◌, ◌*◌, ◌/◌, ◌%◌, ◌^◌, ◌<◌};
 ghost use Rattle.registers.specs.SerialNumber.{counter_of, with_counter, cleared_tail, cleared_head};
 
 // The counter at the end of a serial number.
 pub fn counter_of(serial_number: &[u8]) -> u32
     ensures { result ≡ counter_of serial_number.now }
 {
-    let high = lent::byte_at(serial_number, 7) as u32;
-    let middle = lent::byte_at(serial_number, 8) as u32;
-    let low = lent::byte_at(serial_number, 9) as u32;
+    let high = u32::from(lent::byte_at(serial_number, 7));
+    let middle = u32::from(lent::byte_at(serial_number, 8));
+    let low = u32::from(lent::byte_at(serial_number, 9));
     high % 32 * 65536 + middle * 256 + low
 }
 
@@ -38,11 +38,30 @@ pub fn with_counter(serial_number: &[u8], counter: u32) -> [u8; 10]
 }
 
 // The last eight bytes of a serial number with the counter cleared.
-pub fn cleared_tail(serial_number: &[u8]) -> u64
-    ensures { result ≡ cleared_tail serial_number.now }
+#[derive(Clone, Copy)]
+pub struct Tail {
+    pub word: u64,
+    ghost clear: { word % 2 ^ 21 ≡ 0 },
+}
+
+impl Tail {
+    // The data of a step: those bytes with these bits of a counter set.
+    pub fn with_bits(self, bits: u32) -> u64
+        requires { bits < 2 ^ 21 }
+        ensures { result ≡ self.word + bits }
+    {
+        self.word + lent::wide(bits)
+    }
+}
+
+// The last eight bytes of a serial number with the counter cleared.
+pub fn cleared_tail(serial_number: &[u8]) -> Tail
+    ensures { result.word ≡ cleared_tail serial_number.now }
 {
     let cleared = with_counter(serial_number, 0);
-    lent::word_of(&cleared[2..])
+    Tail {
+        word: lent::word_of(&cleared[2..]),
+    }
 }
 
 // The first eight bytes of a serial number with the low five bits cleared, so that the counter is not in them.

@@ -1,90 +1,57 @@
 // The terminal's call for its next key.
-ghost use Rattle.std.specs.Prelude.{◌≡◌, replicate};
-ghost use Rattle.registers.specs.Counters.{Permitted};
-ghost use Rattle.registers.specs.Machine.{ready_key, spent};
+ghost use Rattle.std.specs.Prelude.{◌≡◌, Err};
 ghost use Rattle.registers.specs.Calls.{Next};
-ghost use Rattle.host.specs.SingleLength.{single_length};
-ghost use Rattle.terminal.specs.View.{view};
+ghost use Rattle.terminal.specs.View.{view, call_view};
 
-use crate::filling::renewed;
-use crate::state::{Terminal, valid};
+use crate::state::Terminal;
+use host::RegisterKey;
+use lent::Refusal;
+use std::convert::AsSlice;
 
-// The answer of a call for the next key: 0, the counter given out, the serial number with that counter in it, and the record after it; or the
-// refusal's number, zeros, and the record as it was.
+// What a call for the next key gives out beside the key: the counter, and the serial number with that counter in it.
 #[derive(Clone, Copy)]
-pub struct NextKey {
-    pub number: u32,
+pub struct Given {
     pub counter: u32,
     pub serial: [u8; 10],
-    pub terminal: Terminal,
 }
 
-// The refusal of a call for the next key.
-fn refused(number: u32, t: Terminal) -> NextKey
-    ensures { result ≡ record { number = number; counter = 0; serial = replicate 10 0; terminal = t } }
-{
-    NextKey {
-        number,
-        counter: 0,
-        serial: [0u8; 10],
-        terminal: t,
+// The answer of a call for the next key, and the record after it: where refused, the record as it was.
+#[derive(Clone, Copy)]
+pub struct NextKey<K> {
+    pub given: Result<Given, Refusal>,
+    pub terminal: Terminal<K>,
+}
+
+impl<K: RegisterKey> Terminal<K> {
+    // The answer that refuses.
+    fn refused(self, why: Refusal) -> NextKey<K>
+        ensures { result ≡ record { given = Err why; terminal = self } }
+    {
+        NextKey {
+            given: Err(why),
+            terminal: self,
+        }
     }
-}
 
-// The key of the next counter: it stands in the register of the counter's lowest one bit.
-fn ready_key(t: Terminal) -> u64
-    requires { Permitted t.position.counter }
-    ensures { result ≡ ready_key single_length (view t) }
-{
-    let l = registers::lowest_place(t.position.counter);
-    t.keys[l]
-}
-
-// The record after the key of its counter was given out.
-fn after_key(t: Terminal) -> Terminal
-    requires { Permitted t.position.counter }
-    ensures { view result ≡ spent single_length (view t) }
-{
-    let old = t.keys;
-    let serial = t.serial;
-    let counter = t.position.counter;
-    let position = registers::position_after(counter);
-    if position.exhausted {
-        return Terminal {
-            keys: [0u64; 21],
-            serial,
-            position,
+    // Gives out the next key, at the start of `out`. Refuses with 11 if the record does not hang together, 12 if it is exhausted, 13 if `out` is
+    // shorter than the key. A refusal leaves the record and `out` as they were.
+    pub fn next_key(self, out: &mut [u8]) -> NextKey<K>
+        ensures { Next K.device (view self) (call_view out.old result out.new) }
+    {
+        let counter = match self.next_counter() {
+            Ok(counter) => counter,
+            Err(why) => return self.refused(why),
         };
-    }
-    let keys = renewed(old, registers::cleared_tail(&serial), counter);
-    Terminal {
-        keys,
-        serial,
-        position,
-    }
-}
-
-// Gives out the next key, in the first eight bytes of `out`. Refuses with 11 if the record does not hang together, 12 if it is exhausted, 13 if
-// `out` is shorter than the key. A refusal leaves the record and `out` as they were.
-pub fn next_key(t: Terminal, out: &mut [u8]) -> NextKey
-    ensures { Next single_length (view t) (record { before = out.old; number = result.number; counter = result.counter; serial = result.serial; left = view result.terminal; after = out.new }) }
-{
-    if !valid(t) {
-        return refused(lent::BAD_RECORD, t);
-    }
-    if t.position.exhausted {
-        return refused(lent::EXHAUSTED, t);
-    }
-    if out.len() < 8 {
-        return refused(lent::SHORT_BUFFER, t);
-    }
-    lent::lend_word(host::given_out(ready_key(t)), out);
-    let serial = t.serial;
-    let counter = t.position.counter;
-    NextKey {
-        number: lent::DONE,
-        counter,
-        serial: registers::with_counter(&serial, counter),
-        terminal: after_key(t),
+        if out.len() < K::size() {
+            return self.refused(Refusal::ShortBuffer);
+        }
+        out[..K::size()].copy_from_slice(self.given_key(counter).bytes().as_slice());
+        NextKey {
+            given: Ok(Given {
+                counter: counter.value,
+                serial: registers::with_counter(&self.serial, counter.value),
+            }),
+            terminal: self.after_key(counter),
+        }
     }
 }

@@ -1,11 +1,11 @@
-// A DUKPT terminal, single length (01, Terminal keys): its record, loading, and the call for its next key.
+// A DUKPT terminal (01, Terminal keys), for keys of any length: its record, loading, and the call for its next key.
 #![tactic(auto)]
 
 mod calls;
 mod filling;
+mod giving;
 mod loading;
 mod state;
 
-pub use calls::{NextKey, next_key};
-pub use loading::{Loaded, load};
+pub use calls::{Given, NextKey};
 pub use state::Terminal;

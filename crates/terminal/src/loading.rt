@@ -1,65 +1,33 @@
 // Loading a terminal.
 ghost use Rattle.std.specs.Prelude.{◌≡◌};
-ghost use Rattle.lent.specs.Refusals.{number_of, size};
+ghost use Rattle.lent.specs.Result.{number, of_done};
 ghost use Rattle.registers.specs.Machine.{zero_state};
-ghost use Rattle.registers.specs.Calls.{Load};
-ghost use Rattle.host.specs.SingleLength.{single_length};
-ghost use Rattle.terminal.specs.View.{view};
+ghost use Rattle.registers.specs.Calls.{Load, loading};
+ghost use Rattle.terminal.specs.View.{view, done_view};
 
 use crate::filling::filled_from;
 use crate::state::Terminal;
+use host::RegisterKey;
+use lent::Refusal;
 use registers::Position;
 
-// The answer of a loading: 0 and the record, or the refusal's number and the all-zero record.
-#[derive(Clone, Copy)]
-pub struct Loaded {
-    pub number: u32,
-    pub terminal: Terminal,
-}
-
-// The refusal of a loading.
-fn refused() -> Loaded
-    ensures { (result.number ≡ number_of size) × (view result.terminal ≡ zero_state single_length) }
-{
-    Loaded {
-        number: lent::SIZE,
-        terminal: Terminal {
-            keys: [0u64; 21],
-            serial: [0u8; 10],
-            position: Position {
-                counter: 0,
-                filled: 0,
-                exhausted: false,
-            },
-        },
-    }
-}
-
-// Loads a terminal with an initial key and a serial number, whose counter is cleared. Refuses with 6 if the key does not have 8 bytes or the
-// serial number 10. Counter 1 is next. A refusal answers the all-zero record.
-pub fn load(initial_key: &[u8], serial_number: &[u8]) -> Loaded
-    ensures { Load single_length initial_key.now serial_number.now result.number (view result.terminal) }
-{
-    if initial_key.len() != 8 {
-        return refused();
-    }
-    if serial_number.len() != 10 {
-        return refused();
-    }
-    let empty = [0u64; 21];
-    let keys = filled_from(
-        empty,
-        21,
-        lent::word_of(initial_key),
-        registers::cleared_tail(serial_number),
-        0,
-    );
-    Loaded {
-        number: lent::DONE,
-        terminal: Terminal {
+impl<K: RegisterKey> Terminal<K> {
+    // Loads a terminal with an initial key and a serial number, whose counter is cleared; counter 1 is next. Refuses with 6 if the key does not
+    // have the device's size or the serial number 10 bytes.
+    pub fn load(initial_key: &[u8], serial_number: &[u8]) -> Result<Terminal<K>, Refusal>
+        ensures state { done_view result ≡ loading K.device initial_key.now serial_number.now }
+        ensures load { Load K.device initial_key.now serial_number.now (number result) (of_done view (zero_state K.device) result) }
+    {
+        if initial_key.len() != K::size() || serial_number.len() != 10 {
+            return Err(Refusal::Size);
+        }
+        let key = K::read(initial_key);
+        let tail = registers::cleared_tail(serial_number);
+        let keys = filled_from([K::empty(); 21], 21, key, tail, 0);
+        Ok(Terminal {
             keys,
             serial: registers::with_counter(serial_number, 0),
-            position: registers::position_at(1),
-        },
+            position: Position::at(1),
+        })
     }
 }

@@ -1,4 +1,4 @@
-// A terminal of single length whose record is 187 lent bytes (include/chizuregwo.h): its loading, and the call for its next key.
+// A terminal whose record is lent bytes (include/chizuregwo.h), for keys of any length: its loading, and the call for its next key.
 #![tactic(auto)]
 
 mod calls;

@@ -1,67 +1,70 @@
-// The record of a terminal of single length as 187 bytes.
-ghost use Rattle.std.specs.Prelude.{◌≡◌, length};
+// The record of a terminal as bytes.
+ghost use Rattle.std.specs.Prelude.{◌≡◌, ◌*◌, length, MatchOption};
 ghost use Rattle.lent.specs.Private.{Appends};
-ghost use Rattle.host.specs.SingleLength.{single_length};
 ghost use Rattle.terminal.specs.View.{view};
 ghost use Rattle.recordbytes.specs.RecordBytes.{record_size, record_bytes, register_bytes, registers_of, state_of};
 
+use host::RegisterKey;
+use recordbytes::Rest;
+use std::convert::AsSlice;
 use terminal::Terminal;
+
+// How many bytes a record has.
+pub(crate) fn record_size<K: RegisterKey>() -> usize
+    ensures { result ≡ record_size K.device }
+{
+    21 * K::size() + 19
+}
 
 // ---- writing
 
-// Writes the registers, 8 bytes each.
-fn put_registers(keys: [u64; 21], bytes: &mut [u8]) -> usize
-    ensures { Appends (register_bytes single_length keys) bytes.old bytes.new 0 result }
+// Writes the registers.
+fn put_registers<K: RegisterKey>(keys: &[K], bytes: &mut [u8]) -> usize
+    ensures { Appends (register_bytes K.device keys.now) bytes.old bytes.new 0 result }
 {
-    let mut n: usize = 0;
-    let mut i: usize = 0;
-    while i < 21 {
-        let register = lent::bytes_of(keys[i]);
-        n = recordbytes::put(bytes, n, &register);
-        i += 1;
+    let mut n = 0;
+    for key in keys {
+        n = recordbytes::put(bytes, n, key.bytes().as_slice());
     }
     n
 }
 
 // Writes a record.
-pub(crate) fn put_record(t: Terminal, bytes: &mut [u8])
-    requires { length bytes.old ≡ record_size single_length }
-    ensures { bytes.new ≡ record_bytes single_length (view t) }
+pub(crate) fn put_record<K: RegisterKey>(t: Terminal<K>, bytes: &mut [u8])
+    requires { length bytes.old ≡ record_size K.device }
+    ensures { bytes.new ≡ record_bytes K.device (view t) }
 {
-    let keys = t.keys;
-    let serial = t.serial;
-    let after_keys = put_registers(keys, bytes);
-    recordbytes::put_rest(bytes, after_keys, serial, t.position);
+    let after_keys = put_registers(&t.keys, bytes);
+    let rest = Rest {
+        serial: t.serial,
+        position: t.position,
+    };
+    recordbytes::put_rest(bytes, after_keys, rest);
 }
 
 // ---- reading
 
-// The registers, 8 bytes each.
-fn registers_of(bytes: &[u8]) -> [u64; 21]
-    requires { length bytes.now ≡ 168 }
-    ensures { result ≡ registers_of single_length 21 bytes.now }
+// The registers.
+fn registers_of<K: RegisterKey>(bytes: &[u8]) -> [K; 21]
+    requires { length bytes.now ≡ 21 * K.device.size }
+    ensures { result ≡ registers_of K.device 21 bytes.now }
 {
-    let mut keys = [0u64; 21];
-    let mut i: usize = 0;
-    while i < 21 {
-        keys[i] = lent::word_of(&bytes[8 * i..]);
-        i += 1;
+    let mut keys = [K::empty(); 21];
+    for i in 0..21 {
+        keys[i] = K::read(&bytes[K::size() * i..]);
     }
     keys
 }
 
-// Reads a record.
-pub(crate) fn terminal_of(bytes: &[u8]) -> Terminal
-    requires { length bytes.now ≡ record_size single_length }
-    ensures { view result ≡ state_of single_length bytes.now }
+// Reads a record. Bytes of another size are none.
+pub(crate) fn terminal_of<K: RegisterKey>(bytes: &[u8]) -> Option<Terminal<K>>
+    ensures { MatchOption result (¬ (length bytes.now ≡ record_size K.device)) (λ t. (length bytes.now ≡ record_size K.device) × (view t ≡ state_of K.device bytes.now)) }
 {
-    let keys = registers_of(&bytes[..168]);
-    let rest = recordbytes::rest_of(&bytes[168..]);
-    let serial = rest.serial;
-    let position = rest.position;
-    Terminal {
-        keys,
-        serial,
-        position,
+    let at = 21 * K::size();
+    if bytes.len() < at {
+        return None;
     }
+    let rest = recordbytes::rest_of(&bytes[at..])?;
+    let keys = registers_of(&bytes[..at]);
+    Some(Terminal::new(keys, rest.serial, rest.position))
 }

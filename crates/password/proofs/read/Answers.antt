@@ -1,27 +1,28 @@
-use borrow.Author.Tests.{eq-eqb, ne_eqb}
-use mathlib.Core.Path.{◌≡◌, refl, sym, ◌∙◌}
-use mathlib.Core.Bool.{false}
-use lib.Dec.{eqb}
-use lib.ListN.{length}
-use Rattle.lent.specs.Refusals.{size, bad_block}
-use Rattle.lent.proofs.Results.{refused_answer}
+use Rattle.std.proofs.Common.{◌∙◌, sym}
+use Rattle.std.proofs.lemmas.Bool.{eq-eqb, ne_eqb}
+use Rattle.lent.proofs.Results.{refused_writes, same_writes}
 use Rattle.password.specs.Password.{read}
 use Rattle.password.proofs.read.Goals as goal
 
 pub returns-then-block-ne24 : goal.returns-then-block-ne24
 unfolding read
-returns-then-block-ne24 c =
-    let other : eqb (length c.args.block.now) 24 ≡ false = ne_eqb _ _ c.if-block-ne24.true in
-    refused_answer c.refused.ensures (size, refl, simp other)
+returns-then-block-ne24 c = refused_writes (simp (ne_eqb _ _ c.if-block-ne24.true))
 
-pub returns-then-not-makes : goal.returns-then-not-makes
+pub returns-in-Ok : goal.returns-in-Ok
 unfolding read
-returns-then-not-makes c =
-    let no = sym c.makes.ensures ∙ c.if-not-makes.true in
-    refused_answer c.refused-then-not-makes.ensures (bad_block, refl, simp (eq-eqb _ _ c.if-block-ne24.false, ← c.framed_text-password.ensures, no))
+returns-in-Ok c =
+    let made = sym c.block_of.ensures ∙ c.in-Ok.is in
+    same_writes
+    (simp (eq-eqb _ _ c.if-block-ne24.false, ← c.framed_text-password.ensures, made, sym c.same.ensures ∙ c.if-same.true)) c.lend.ensures
 
-pub returns : goal.returns
+pub returns-in_default : goal.returns-in_default
 unfolding read
-returns c =
-    let yes = sym c.makes.ensures ∙ c.if-not-makes.false in
-    simp (eq-eqb _ _ c.if-block-ne24.false, ← c.framed_text-password.ensures, yes) c.lend.ensures
+returns-in_default c =
+    let made = sym c.block_of.ensures ∙ c.in-Ok.is in
+    refused_writes (simp (eq-eqb _ _ c.if-block-ne24.false, ← c.framed_text-password.ensures, made, sym c.same.ensures ∙ c.if-same.false))
+
+pub returns-in_default-2 : goal.returns-in_default-2
+unfolding read
+returns-in_default-2 c =
+    let made = sym c.block_of.ensures ∙ c.in_default.is in
+    refused_writes (simp (eq-eqb _ _ c.if-block-ne24.false, ← c.framed_text-password.ensures, made))

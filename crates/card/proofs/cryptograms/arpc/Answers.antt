@@ -1,37 +1,33 @@
-use borrow.Author.Tests.{eq-eqb, ne_eqb}
-use mathlib.Core.Path.{refl}
-use Rattle.lent.specs.Refusals.{size}
-use Rattle.lent.proofs.Results.{refused_block}
+use borrow.Author.Tests.{eq-eqb}
+use Rattle.std.proofs.Common.{arith}
+use Rattle.std.proofs.lemmas.Grind.{common_steps}
 use Rattle.lent.proofs.Parts.{from_zeros_after}
 use Rattle.card.specs.Cryptograms.{arpc_word}
 use Rattle.card.specs.Entries.{arpc}
+use Rattle.card.proofs.DoubleKeys.{halves}
 use Rattle.card.proofs.cryptograms.arpc.Goals as goal
 
-pub returns-then-session_key-ne16 : goal.returns-then-session_key-ne16
+pub returns-in_err-key : goal.returns-in_err-key
 unfolding arpc
-returns-then-session_key-ne16 c = refused_block c.refused_block.ensures (size, refl, simp (ne_eqb _ _ c.if-session_key-ne16.true))
+returns-in_err-key c = grind (arith, common_steps)
 
 pub returns-then-arqc-ne8 : goal.returns-then-arqc-ne8
 unfolding arpc
-returns-then-arqc-ne8 c =
-    refused_block c.refused_block-then-arqc-ne8.ensures
-    (size, refl, simp (eq-eqb _ _ c.if-session_key-ne16.false, ne_eqb _ _ c.if-arqc-ne8.true))
-
-pub returns-then-code-ne2 : goal.returns-then-code-ne2
-unfolding arpc
-returns-then-code-ne2 c =
-    refused_block c.refused_block-then-code-ne2.ensures
-    (size, refl, simp (eq-eqb _ _ c.if-session_key-ne16.false, eq-eqb _ _ c.if-arqc-ne8.false, ne_eqb _ _ c.if-code-ne2.true))
+returns-then-arqc-ne8 c = grind (arith, common_steps)
 
 pub returns : goal.returns
 unfolding arpc arpc_word
 returns c =
+    let k = halves c.args.session_key.now c.try_from.ensures c.in_ok-key.was in
     simp (
-      eq-eqb _ _ c.if-session_key-ne16.false,
+      k.0,
       eq-eqb _ _ c.if-arqc-ne8.false,
       eq-eqb _ _ c.if-code-ne2.false,
+      k.1,
+      k.2,
       from_zeros_after 256 8,
-      ← c.word_of.ensures,
-      ← c.word_of-2.ensures,
-      ← c.triple_encrypt.ensures,
-    ) c.block_of.ensures
+      c.bytes_of.ensures,
+      c.encrypt.ensures,
+      c.word_of.ensures,
+      c.word_of-2.ensures,
+    )

@@ -1,25 +1,17 @@
-use borrow.Author.Tests.{eq-eqb, ne_eqb}
-use mathlib.Core.Path.{refl, sym, ◌∙◌}
-use Rattle.lent.specs.Refusals.{size}
-use Rattle.lent.proofs.Laws.{between_true}
-use Rattle.lent.proofs.Results.{refused_block}
+use Rattle.std.proofs.Common.{arith}
+use Rattle.std.proofs.lemmas.Grind.{common_steps}
+use Rattle.card.specs.Cryptograms.{arqc_word}
 use Rattle.card.specs.Entries.{arqc}
 use Rattle.card.proofs.cryptograms.arqc.Goals as goal
 
-pub returns-then-session_key-ne16 : goal.returns-then-session_key-ne16
+pub returns-in_err-key : goal.returns-in_err-key
 unfolding arqc
-returns-then-session_key-ne16 c = refused_block c.refused_block.ensures (size, refl, simp (ne_eqb _ _ c.if-session_key-ne16.true))
+returns-in_err-key c = grind (arith, common_steps)
 
 pub returns-then-not-sized : goal.returns-then-not-sized
 unfolding arqc
-returns-then-not-sized c =
-    refused_block c.refused_block-then-not-sized.ensures
-    (size, refl, simp (eq-eqb _ _ c.if-session_key-ne16.false, sym c.sized.ensures ∙ c.if-not-sized.true))
-
-pub arqc_word-requires : goal.arqc_word-requires
-arqc_word-requires c = (between_true 1 255 _ (sym c.sized.ensures ∙ c.if-not-sized.false)).1
+returns-then-not-sized c = grind (arith, common_steps)
 
 pub returns : goal.returns
-unfolding arqc
-returns c =
-    simp (eq-eqb _ _ c.if-session_key-ne16.false, (sym c.sized.ensures ∙ c.if-not-sized.false), ← c.arqc_word.ensures) c.block_of.ensures
+unfolding arqc arqc_word
+returns c = grind (arith, common_steps)

@@ -1,4 +1,6 @@
+use mathlib.Core.Path.{sym}
+use Rattle.lent.proofs.Results.{same_writes}
 use Rattle.chizuregwo.proofs.hosts.czg_double_host_key.Goals as goal
 
 pub returns : goal.returns
-returns c = c.lend_double_block.ensures 16 _ c.host_key.ensures
+returns c = same_writes (sym c.host_key-key.ensures) c.written.ensures

@@ -1,4 +1,6 @@
+use mathlib.Core.Path.{sym}
+use Rattle.lent.proofs.Results.{same_writes}
 use Rattle.chizuregwo.proofs.hosts.czg_initial_key.Goals as goal
 
 pub returns : goal.returns
-returns c = c.lend_block.ensures 8 _ c.initial_key.ensures
+returns c = same_writes (sym c.initial_key-key.ensures) c.written.ensures

@@ -1,11 +1,7 @@
 use mathlib.Core.Path.{◌≡◌}
-use Prim.Native.Nat.{◌≤◌, ◌-◌}
-use lib.ListN.{length, take}
+use lib.ListN.{take}
 use Rattle.cipher.specs.Bits.{permuted}
 use Rattle.cipher.proofs.bits.permute.Given as goal
 
-abbrev pub invariant-loop-k : goal.invariant-loop-k
-invariant-loop-k l = (l.k ≤ length l.table) × (l.r ≡ permuted l.width (take l.k l.table) l.x)
-
-abbrev pub decreases-loop-k : goal.decreases-loop-k
-decreases-loop-k l = length l.table - l.k
+abbrev pub invariant-loop-i : goal.invariant-loop-i
+invariant-loop-i l = l.r ≡ permuted l.width (take l.i-index l.table) l.x

@@ -29,4 +29,4 @@ first-window c d hc hd =
 
 pub returns : goal.returns
 returns c =
-    eq-eqb _ _ (c.windows.ensures.at 0 (lit< tt) ∙ first-window c.args.c c.args.d c.requires.0 c.requires.1 ∙ sym c.permuted_choice_2.ensures)
+    eq-eqb _ _ (c.windows-words.ensures.at 0 (lit< tt) ∙ first-window c.args.c c.args.d c.requires.0 c.requires.1 ∙ sym c.permuted_choice_2.ensures)

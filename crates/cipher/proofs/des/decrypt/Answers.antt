@@ -3,4 +3,4 @@ use Rattle.cipher.proofs.des.decrypt.Goals as goal
 
 pub returns : goal.returns
 unfolding decrypted
-returns c = simp c.schedule.ensures at c.decrypt_with.ensures
+returns c = simp c.new.ensures at c.decrypt.ensures

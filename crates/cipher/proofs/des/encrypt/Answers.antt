@@ -3,4 +3,4 @@ use Rattle.cipher.proofs.des.encrypt.Goals as goal
 
 pub returns : goal.returns
 unfolding encrypted
-returns c = simp c.schedule.ensures at c.encrypt_with.ensures
+returns c = simp c.new.ensures at c.encrypt.ensures

@@ -1,13 +1,9 @@
 use mathlib.Core.List.{◌++◌, map}
 use mathlib.Core.Path.{◌≡◌}
-use Prim.Native.Nat.{◌≤◌, ◌-◌}
 use lib.ListN.{length, take, drop}
 use Rattle.cipher.specs.Private.{places, from_windows}
 use Rattle.cipher.specs.Schedule.{round_keys}
 use Rattle.cipher.proofs.key_schedule.round_keys.Given as goal
 
 abbrev pub invariant-loop-i : goal.invariant-loop-i
-invariant-loop-i l = (l.i ≤ 16) × (length l.keys ≡ 16) × (take l.i l.keys ++ map (from_windows l.words) (drop l.i places) ≡ round_keys l.key)
-
-abbrev pub decreases-loop-i : goal.decreases-loop-i
-decreases-loop-i l = 16 - l.i
+invariant-loop-i l = (length l.keys ≡ 16) × (take l.i l.keys ++ map (from_windows l.words) (drop l.i places) ≡ round_keys l.key)

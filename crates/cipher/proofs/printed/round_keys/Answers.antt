@@ -15,14 +15,11 @@ pub loop-i-init : goal.loop-i-init
 unfolding round_keys
 loop-i-init c =
     let h = rw (← c.permuted_choice_1-halves.ensures) at (permuted_lt 64 c.args.key permuted_choice1) in
-    (omega arith, omega arith, omega arith, refl, rw c.permuted_choice_1-halves.ensures)
+    record { c_fits = omega arith; d_fits = omega arith; size = refl; so_far = rw c.permuted_choice_1-halves.ensures }
 
 -- C and D are rotated at most two places
 shift : (i : ℕ) → i < 16 → get_or left_shifts i 0 ≤ 2
 shift i h = (entry_range 1 2 left_shifts tt i h).1
-
-pub overflow_cast-n : goal.overflow_cast-n
-overflow_cast-n c = omega (arith, shift c.loop-i.i (omega arith))
 
 pub rotate_left-c-requires : goal.rotate_left-c-requires
 rotate_left-c-requires c = omega (arith, shift c.loop-i.i (omega arith))
@@ -35,17 +32,18 @@ unfolding keys_from
 loop-i-preserved c =
     let l = c.loop-i in
     let c' = c.rotate_left-c.ensures in
-    let d' = c.rotate_left-d.ensures in (
-      omega arith,
-      c'.1,
-      d'.1,
-      simp length-set l.invariant.3,
-      rw (add-one l.i, take-suc-set l.keys l.i _ (omega arith), append_assoc, c.permuted_choice_2.ensures, c'.0, d'.0)
-          (rw (drop-cons left_shifts l.i 0 (omega arith)) at l.invariant.4),
-    )
+    let d' = c.rotate_left-d.ensures in
+    record {
+      c_fits = c'.1;
+      d_fits = d'.1;
+      size = simp length-set l.invariant.size;
+      so_far =
+          rw (add-one l.i, take-suc-set l.keys l.i _ (omega arith), append_assoc, c.permuted_choice_2.ensures, c'.0, d'.0)
+          (rw (drop-cons left_shifts l.i 0 (omega arith)) at l.invariant.so_far);
+    }
 
 pub returns : goal.returns
 unfolding keys_from
 returns c =
     let l = c.loop-i in
-    rw (take_all l.i l.keys (omega arith), drop_of_length-le left_shifts {i = l.i} (omega arith), append-nil) at l.invariant.4
+    rw (take_all l.i l.keys (omega arith), drop_of_length-le left_shifts {i = l.i} (omega arith), append-nil) at l.invariant.so_far

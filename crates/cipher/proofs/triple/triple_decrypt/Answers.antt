@@ -5,5 +5,4 @@ use Rattle.cipher.proofs.triple.triple_decrypt.Goals as goal
 pub returns : goal.returns
 unfolding encrypted decrypted triple_decrypted
 returns c =
-    simp (c.encrypt_with.ensures, c.decrypt_with.ensures, c.schedule-inner.ensures, c.schedule-outer.ensures)
-    at c.decrypt_with-2.ensures
+    simp (c.encrypt.ensures, c.decrypt.ensures, c.new-inner.ensures, c.new-outer.ensures) at c.decrypt-2.ensures

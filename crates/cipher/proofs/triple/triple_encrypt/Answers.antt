@@ -5,5 +5,4 @@ use Rattle.cipher.proofs.triple.triple_encrypt.Goals as goal
 pub returns : goal.returns
 unfolding encrypted decrypted triple_encrypted
 returns c =
-    simp (c.decrypt_with.ensures, c.encrypt_with.ensures, c.schedule-inner.ensures, c.schedule-outer.ensures)
-    at c.encrypt_with-2.ensures
+    simp (c.decrypt.ensures, c.encrypt.ensures, c.new-inner.ensures, c.new-outer.ensures) at c.encrypt-2.ensures

@@ -1,18 +1,11 @@
-use borrow.Author.Rules.{rules}
-use mathlib.Core.Path.{refl}
 use native.Mathlib.Omega.{arith}
 use Rattle.registers.proofs.Laws.{derive_turn, derive_last}
-use Rattle.host.specs.SingleLength.{one_way}
 use Rattle.host.proofs.derivation.register_key.Goals as goal
 
-pub loop-b-init : goal.loop-b-init
-loop-b-init c = (search rules, refl)
-
 pub loop-b-preserved : goal.loop-b-preserved
-loop-b-preserved c =
+loop-b-preserved g c =
     let a = c.args in
-    let l = c.loop-b in
-    (search rules, derive_turn one_way a.tail a.counter a.initial l.key _ l.b c.loop-b-test.true c.past_place-key.ensures l.invariant.1)
+    derive_turn g.K.RegisterKey.device.one_way a.tail.word a.counter.value a.initial c.loop-b.key _ c.loop-b.b (omega arith) c.past_place-key.ensures c.loop-b.invariant
 
 pub returns : goal.returns
-returns c = derive_last one_way _ _ _ _ c.loop-b.b (omega arith) c.loop-b.invariant.1
+returns g c = derive_last g.K.RegisterKey.device.one_way _ _ _ _ c.loop-b.b (omega arith) c.loop-b.invariant

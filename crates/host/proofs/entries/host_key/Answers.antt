@@ -1,40 +1,27 @@
-use mathlib.Core.Bool.{false≢true}
-use mathlib.Core.Path.{refl, sym, ◌∙◌}
-use native.Mathlib.Omega.{arith}
-use Rattle.lent.specs.Refusals.{bad_counter}
-use Rattle.lent.proofs.Results.{refused_block}
-use Rattle.registers.specs.Counters.{Permitted}
-use Rattle.registers.proofs.Laws.{tail_clear, host_refuses, tested_fit, host_uncounted, host_counted}
-use Rattle.host.specs.SingleLength.{single_length}
+use mathlib.Core.Path.{sym, ◌∙◌}
+use Rattle.std.proofs.lemmas.Result.{err_from_is_err_and}
+use Rattle.registers.proofs.Laws.{host_refuses, tested_fit, host_uncounted, host_counted}
 use Rattle.host.proofs.entries.host_key.Goals as goal
 
-pub returns-then-number-ne-DONE : goal.returns-then-number-ne-DONE
-returns-then-number-ne-DONE c =
-    let t = c.derivable-number in
-    refused_block c.refused_block.ensures (host_refuses single_length _ _ t.ensures c.if-number-ne-DONE.true)
+pub returns-in_err-derivable : goal.returns-in_err-derivable
+returns-in_err-derivable g c =
+    let p = err_from_is_err_and c.from_residual.result c.from_residual.ensures.1 in
+    rw (p.1, p.2) (sym (host_refuses g.K.RegisterKey.device _ _ (tt {0}) (sym c.in_err-derivable.ensures)))
 
-pub returns-then-not-permitted : goal.returns-then-not-permitted
-returns-then-not-permitted c =
-    let fits = tested_fit single_length _ _ c.derivable-number.ensures c.if-number-ne-DONE.false in
-    let bad : ¬ Permitted c.counter_of-counter.result = λ ok. false≢true (sym c.if-not-permitted.true ∙ c.permitted.ensures.1 ok) in
-    refused_block c.refused_block-then-not-permitted.ensures (bad_counter, refl, host_uncounted single_length _ _ fits (rw c.counter_of-counter.ensures at bad))
-
-pub register_key-key-requires : goal.register_key-key-requires
-register_key-key-requires c =
-    let counts : Permitted c.counter_of-counter.result = c.permitted.ensures.0 c.if-not-permitted.false in
-    let a = c.args in
-    record { counter_bound = omega (arith, counts.fits); tail_bound = omega (arith, tail_clear a.serial_number.now, c.cleared_tail.ensures) }
+pub returns-in_default : goal.returns-in_default
+returns-in_default g c =
+    let fits = tested_fit g.K.RegisterKey.device _ _ (tt {0}) (sym c.in_ok-derivable.ensures) in
+    sym (host_uncounted g.K.RegisterKey.device _ _ fits (rw c.counter_of.ensures at c.in_default.ensures))
 
 pub returns : goal.returns
-returns c =
-    let counts : Permitted c.counter_of-counter.result = c.permitted.ensures.0 c.if-not-permitted.false in
-    let fits = tested_fit single_length _ _ c.derivable-number.ensures c.if-number-ne-DONE.false in
+returns g c =
+    let fits = tested_fit g.K.RegisterKey.device _ _ (tt {0}) (sym c.in_ok-derivable.ensures) in
+    let counter = c.in-Some.ensures ∙ c.counter_of.ensures in
     rw (
-      host_counted single_length _ _ fits (rw c.counter_of-counter.ensures at counts),
-      ← c.counter_of-counter.ensures,
-      ← c.initial_word-initial.ensures,
-      ← c.cleared_tail.ensures,
-      ← c.register_key-key.ensures,
-      ← c.given_out.ensures,
+      c.given_out.ensures,
+      c.register_key-key.ensures,
+      c.cleared_tail.ensures,
+      c.initial_of-initial.ensures,
+      counter,
     )
-    c.block_of.ensures
+    (sym (host_counted g.K.RegisterKey.device _ _ fits (rw counter at c.in-Some.counter.permitted)))

@@ -1,15 +1,14 @@
-use Rattle.lent.proofs.Results.{refused_block}
+use mathlib.Core.Path.{sym}
+use Rattle.std.proofs.lemmas.Result.{err_from_is_err_and}
 use Rattle.registers.proofs.Laws.{initial_done, initial_refuses, tested_fit}
-use Rattle.host.specs.SingleLength.{single_length}
 use Rattle.host.proofs.entries.initial_key.Goals as goal
 
-pub returns-then-number-ne-DONE : goal.returns-then-number-ne-DONE
-returns-then-number-ne-DONE c =
-    let t = c.derivable-number in
-    refused_block c.refused_block.ensures (initial_refuses single_length _ _ t.ensures c.if-number-ne-DONE.true)
+pub returns-in_err-derivable : goal.returns-in_err-derivable
+returns-in_err-derivable g c =
+    let p = err_from_is_err_and c.from_residual.result c.from_residual.ensures.1 in
+    rw (p.1, p.2) (sym (initial_refuses g.K.RegisterKey.device _ _ (tt {0}) (sym c.in_err-derivable.ensures)))
 
 pub returns : goal.returns
-returns c =
-    let t = c.derivable-number in
-    let fits = tested_fit single_length _ _ t.ensures c.if-number-ne-DONE.false in
-    rw (initial_done single_length _ _ fits, ← c.initial_word.ensures) c.block_of.ensures
+returns g c =
+    let fits = tested_fit g.K.RegisterKey.device _ _ (tt {0}) (sym c.in_ok-derivable.ensures) in
+    rw c.initial_of.ensures (sym (initial_done g.K.RegisterKey.device _ _ fits))

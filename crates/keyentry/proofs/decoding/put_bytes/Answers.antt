@@ -1,38 +1,24 @@
-use borrow.Author.Rules.{rules}
-use mathlib.Core.Path.{◌≡◌, refl}
-use native.Mathlib.Nat.{zero-add}
-use native.Mathlib.Numerals.{add-one}
-use native.Mathlib.Omega.{arith}
-use lib.ListN.{length, length-set}
-use lib.Seq.{paste-suc, take-length}
+use Rattle.std.proofs.Common.{get_or, arith}
+use Rattle.std.proofs.lemmas.List.{length-take-le}
+use Rattle.std.proofs.lemmas.List.Edits.{fill_by_more}
+use lib.Seq.{ext_get_or}
 use Rattle.keyentry.specs.Hexadecimal.{bytes_of}
 use Rattle.keyentry.proofs.Pairs.{byte_at}
 use Rattle.keyentry.proofs.Texts.{bytes_length}
 use Rattle.keyentry.proofs.decoding.put_bytes.Goals as goal
 
-pub loop-i-init : goal.loop-i-init
-loop-i-init c = (refl, search rules, refl)
-
-pub byte_of-requires : goal.byte_of-requires
-byte_of-requires c = record { place_in_bounds = omega arith; all_hexadecimal = c.requires.all_hexadecimal }
-
-pub bounds-out-i : goal.bounds-out-i
-bounds-out-i c = omega arith
-
 pub loop-i-preserved : goal.loop-i-preserved
 loop-i-preserved c =
     let l = c.loop-i in
     let text = c.args.text.now in
-    let n = bytes_length text c.args.size.0 c.requires.text_len in
-    let at = byte_at text l.i (omega arith) in (
-      rw (l.invariant.0, add-one l.i, c.byte_of.ensures, ← at)
-          (simp zero-add at (paste-suc c.args.out.now 0 (bytes_of text) l.i 0 (omega arith) (omega arith))),
-      omega arith,
-      simp length-set l.invariant.2,
-    )
+    let lent = length-take-le c.args.size.0 c.args.out.now c.requires.size_in_bounds in
+    rw (c.byte_of.ensures, ← byte_at text l.i (omega (arith, lent)))
+    (fill_by_more (λ k. get_or (bytes_of text) k 0) l.byte-items l.i 0 (omega arith) l.invariant)
 
 pub returns : goal.returns
 returns c =
     let l = c.loop-i in
-    let e : l.i ≡ length (bytes_of c.args.text.now) = omega (arith, bytes_length c.args.text.now c.args.size.0 c.requires.text_len) in
-    rw (l.invariant.0, e, take-length)
+    let text = c.args.text.now in
+    let lent = length-take-le c.args.size.0 c.args.out.now c.requires.size_in_bounds in
+    let n = bytes_length text c.args.size.0 c.requires.text_len in
+    rw (n, ext_get_or 0 l.byte-items (bytes_of text) (omega (arith, n, lent)) (λ k h. l.invariant k (omega arith)))

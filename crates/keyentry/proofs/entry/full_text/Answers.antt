@@ -1,17 +1,18 @@
-use borrow.Author.Tests.{ne_eqb}
-use mathlib.Core.Path.{sym, ◌∙◌}
-use Prim.Native.Nat.{◌*◌}
-use native.Mathlib.Omega.{arith}
-use lib.ListN.{length}
-use Rattle.keyentry.proofs.Doublings.{doubled_fits, doubled_too_large}
+use Rattle.std.proofs.Common.{◌≡◌, ◌∙◌, ℕ, ◌*◌, ◌^◌, ◌<◌, Some, eqb, ltb, length, sym, arith}
+use Rattle.std.proofs.lemmas.Bool.{ltb-false, ne_eqb}
+use Rattle.std.specs.Option.{option_eq}
+use Rattle.lent.proofs.Laws.{cases}
+use Rattle.keyentry.specs.Doubled.{doubled}
+use Rattle.keyentry.specs.declared.units.Bytes.{Bytes}
+use Rattle.keyentry.specs.declared.units.Digits.{Digits}
 use Rattle.keyentry.proofs.entry.full_text.Goals as goal
 
-pub returns-in_default : goal.returns-in_default
-returns-in_default c =
-    let a = c.args in
-    let big = doubled_too_large a.size (sym c.in_default.is ∙ c.digits_of.ensures) in
-    sym (ne_eqb (length a.text.now) (2 * a.size.0) (λ e. omega arith))
+held : (given : ℕ) (size : Bytes) → given < 2 ^ 64
+    → option_eq (λ (d e : Digits). eqb d.0 e.0) (Some (record { 0 = given })) (doubled size) ≡ eqb given (2 * size.0)
+unfolding doubled
+held given size h =
+    cases (ltb (2 * size.0) (2 ^ 64)) (λ t. simp t)
+    (λ f. let large = ltb-false _ _ f in simp f (sym (ne_eqb given (2 * size.0) (λ e. omega arith))))
 
 pub returns : goal.returns
-returns c =
-    rw (doubled_fits _ c.in-Fits.wanted (sym c.in-Fits.is ∙ c.digits_of.ensures))
+returns c = rw c.digits.ensures at c.eq.ensures ∙ held (length c.args.text.now) c.args.size (omega arith)

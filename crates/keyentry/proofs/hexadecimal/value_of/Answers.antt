@@ -1,7 +1,4 @@
-use mathlib.Core.Path.{◌≡◌, sym, ◌∙◌}
-use mathlib.Core.Bool.{true, false}
-use Prim.Native.Nat.{ℕ, ◌≤◌}
-use native.Mathlib.Omega.{arith}
+use Rattle.std.proofs.Common.{◌≡◌, ◌≤◌, ◌∙◌, ℕ, sym, true, false, arith}
 use Rattle.lent.specs.Characters.{digit, capitalized, hexadecimal}
 use Rattle.lent.proofs.Laws.{between_true}
 use Rattle.keyentry.specs.Hexadecimal.{value_of}
@@ -12,22 +9,20 @@ letter : (x : ℕ) → hexadecimal x ≡ true → digit x ≡ false → (65 ≤ 
 unfolding hexadecimal
 letter x e d = between_true 65 70 (capitalized x) (simp d at e)
 
-pub overflow_sub-result : goal.overflow_sub-result
-overflow_sub-result c =
-    omega (arith, between_true 48 57 c.args.x (sym c.is_digit.ensures ∙ c.if-is_digit.true))
-
-pub returns-then-is_digit : goal.returns-then-is_digit
-unfolding value_of
-returns-then-is_digit c =
-    let e = sym c.is_digit.ensures ∙ c.if-is_digit.true in
-    (simp e, omega (arith, between_true 48 57 c.args.x e))
-
-pub overflow_sub-result-2 : goal.overflow_sub-result-2
-overflow_sub-result-2 c =
+pub overflow_sub-result-else-is_digit : goal.overflow_sub-result-else-is_digit
+overflow_sub-result-else-is_digit c =
     omega (arith, letter c.args.x c.requires (sym c.is_digit.ensures ∙ c.if-is_digit.false), c.capitalized.ensures)
 
-pub returns : goal.returns
+pub returns-then-is_digit-clause-value : goal.returns-then-is_digit-clause-value
 unfolding value_of
-returns c =
+returns-then-is_digit-clause-value c = simp (sym c.is_digit.ensures ∙ c.if-is_digit.true)
+
+pub returns-else-is_digit-clause-value : goal.returns-else-is_digit-clause-value
+unfolding value_of
+returns-else-is_digit-clause-value c =
     let e = sym c.is_digit.ensures ∙ c.if-is_digit.false in
-    (simp (e, c.capitalized.ensures), omega (arith, letter c.args.x c.requires e, c.capitalized.ensures))
+    simp e (omega (arith, letter c.args.x c.requires e, c.capitalized.ensures))
+
+pub returns-else-is_digit-clause-bound : goal.returns-else-is_digit-clause-bound
+returns-else-is_digit-clause-bound c =
+    omega (arith, letter c.args.x c.requires (sym c.is_digit.ensures ∙ c.if-is_digit.false), c.capitalized.ensures)

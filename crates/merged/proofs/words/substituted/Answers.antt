@@ -1,23 +1,32 @@
-use mathlib.Core.Path.{◌≡◌}
-use Prim.Native.Nat.{ℕ, ◌/◌, ◌%◌, ◌^◌}
+use mathlib.Core.Path.{◌≡◌, ◌∙◌}
+use Prim.Native.Nat.{ℕ}
 use native.Mathlib.Nat.{div-one}
-use lib.Bits.{bit_xor, xor_zero_l}
-use lib.ListN.{get_or}
+use lib.Bits.{bit_xor, xor_comm, xor_zero_l}
+use Rattle.std.specs.Int.Bits.{xor_assoc}
 use Rattle.merged.specs.RoundWords.{box1, box2, box3, box4, box5, box6, box7, box8}
 use Rattle.merged.specs.Words.{words, substituted}
 use Rattle.merged.proofs.words.substituted.Goals as goal
 
--- the words that were read
-eight : (x y1 y2 y3 y4 y5 y6 y7 y8 : ℕ) → y1 ≡ get_or box1 (x / 2 ^ 42 % 64) 0 → y2 ≡ get_or box2 (x / 2 ^ 36 % 64) 0
-    → y3 ≡ get_or box3 (x / 2 ^ 30 % 64) 0 → y4 ≡ get_or box4 (x / 2 ^ 24 % 64) 0 → y5 ≡ get_or box5 (x / 2 ^ 18 % 64) 0
-    → y6 ≡ get_or box6 (x / 2 ^ 12 % 64) 0 → y7 ≡ get_or box7 (x / 2 ^ 6 % 64) 0 → y8 ≡ get_or box8 (x % 64) 0
-    → bit_xor (bit_xor (bit_xor (bit_xor (bit_xor (bit_xor (bit_xor y1 y2) y3) y4) y5) y6) y7) y8 ≡ substituted x
-unfolding words substituted
-eight x y1 y2 y3 y4 y5 y6 y7 y8 e1 e2 e3 e4 e5 e6 e7 e8 =
-    rw (div-one x, ← e1, ← e2, ← e3, ← e4, ← e5, ← e6, ← e7, ← e8, xor_zero_l y1)
+-- the last word first, and the first word first
+turned : (a b c d e f g h : ℕ)
+    → bit_xor (bit_xor (bit_xor (bit_xor (bit_xor (bit_xor (bit_xor h g) f) e) d) c) b) a
+    ≡ bit_xor (bit_xor (bit_xor (bit_xor (bit_xor (bit_xor (bit_xor a b) c) d) e) f) g) h
+turned a b c d e f g h =
+    rw (xor_comm _ a, xor_comm _ b, xor_comm _ c, xor_comm _ d, xor_comm _ e, xor_comm _ f, xor_comm h g) (simp xor_assoc)
 
 pub returns : goal.returns
+unfolding words substituted box1 box2 box3 box4 box5 box6 box7 box8
 returns c =
-    eight c.args.x _ _ _ _ _ _ _ _
-    c.box_1.ensures c.box_2.ensures c.box_3.ensures c.box_4.ensures
-    c.box_5.ensures c.box_6.ensures c.box_7.ensures c.box_8.ensures
+    turned c.word-8.result c.word-7.result c.word-6.result c.word-5.result c.word-4.result c.word-3.result c.word-2.result c.word.result
+    ∙ rw (
+      div-one c.args.x,
+      ← c.word-8.ensures,
+      ← c.word-7.ensures,
+      ← c.word-6.ensures,
+      ← c.word-5.ensures,
+      ← c.word-4.ensures,
+      ← c.word-3.ensures,
+      ← c.word-2.ensures,
+      ← c.word.ensures,
+      xor_zero_l c.word-8.result,
+    )

@@ -1,127 +1,98 @@
-use borrow.Author.Tests.{le-leb, lt-leb, lt-ltb}
+use borrow.Author.Tests.{eqb-true, eqb-false, le-leb, lt-leb, lt-ltb}
 use mathlib.Core.Path.{◌≡◌, refl, sym, ◌∙◌}
-use mathlib.Core.List.{◌++◌}
-use Prim.Native.Nat.{◌+◌, ◌-◌, ◌<◌, ◌≤◌}
+use mathlib.Core.List.{List, [], ◌∷◌, ◌++◌}
+use Prim.Native.Nat.{ℕ, ◌+◌, ◌<◌, ◌≤◌}
 use native.Mathlib.Omega.{arith}
-use lib.ListN.{length, take, drop, length-drop, drop_of_length-le}
-use lib.Seq.{drop-drop}
-use Rattle.lent.specs.Refusals.{cut_short, size}
-use Rattle.lent.specs.Result.{done}
-use Rattle.lent.proofs.Appending.{appended_front}
+use lib.ListN.{length, drop, length-append}
+use Rattle.std.proofs.lemmas.Result.{err_from_is_err_and}
+use Rattle.std.specs.Prelude.{Some}
 use Rattle.lent.proofs.Lists.{part_rest}
-use Rattle.lent.proofs.Results.{refuses_then}
-use Rattle.message.specs.declared.records.Place.TheVariants.{After}
 use Rattle.message.specs.Fields.{rule}
-use Rattle.message.specs.Records.{body_size, field_of, record_field, records, message_fields}
-use Rattle.message.specs.Gathered.{read_of, spaced_field, spaced, gathered}
-use Rattle.message.proofs.Reading.{read_field, read_refused}
-use Rattle.message.proofs.Walking.{following_end, following_field, records_next, refused_gathered}
+use Rattle.message.specs.Records.{body_size, field_of, records, message_fields}
+use Rattle.message.specs.Gathered.{spaced_field, gathered}
+use Rattle.message.proofs.Reading.{read_field, body_read, read_refused}
+use Rattle.message.proofs.Walking.{following_end, following_field, records_next}
 use Rattle.message.proofs.Room.{room_short, room_grows}
 use Rattle.message.proofs.text.gather.Goals as goal
 
 pub returns-then-message-gt4096 : goal.returns-then-message-gt4096
 unfolding gathered message_fields
-returns-then-message-gt4096 c =
-    let r = refused_gathered _ c.refused.ensures (size, refl, simp (lt-leb _ _ c.if-message-gt4096.true)) in record { answered = r.0; length_bound = r.1 }
+returns-then-message-gt4096 c = simp (lt-leb _ _ c.if-message-gt4096.true)
 
-pub returns-then-message-eq0 : goal.returns-then-message-eq0
+pub returns-then-is_empty : goal.returns-then-is_empty
 unfolding gathered message_fields
-returns-then-message-eq0 c =
-    let r = refused_gathered _ c.refused-then-message-eq0.ensures (cut_short, refl, simp c.if-message-eq0.true) in record { answered = r.0; length_bound = r.1 }
+returns-then-is_empty c =
+    let none : length c.args.message.now ≡ 0 = eqb-true _ _ (sym c.is_empty.ensures ∙ c.if-is_empty.true) in
+    simp none
 
-pub loop-at-init : goal.loop-at-init
+pub loop-rest-init : goal.loop-rest-init
 unfolding gathered message_fields
-loop-at-init c =
+loop-rest-init c =
     let m = c.args.message.now in
-    let some : 0 < length m = omega arith in
+    let some : length m ≡ 0 → ⊥ = eqb-false _ _ (sym c.is_empty.ensures ∙ c.if-is_empty.false) in
     let fits : length m ≤ 4096 = omega arith in
-    record {
-      within = omega arith;
+    let one : 0 < length m = omega arith in
+    rw c.new-text.ensures
+    (record {
       count = omega arith;
-      memory = c.requires;
-      rest = simp (le-leb _ _ fits, lt-ltb _ _ some);
-    }
+      all = simp (le-leb _ _ fits, lt-ltb _ _ one);
+    })
 
-pub returns-in-Refused : goal.returns-in-Refused
-returns-in-Refused c =
-    let l = c.loop-at in
-    let m = c.args.message.now in
-    let s = drop l.at m in
-    let some : 0 < length s = rw length-drop (omega arith) in
-    let read_is : read_of s (record_field l.place s) ≡ c.read_record.result = sym (rw (part_rest l.at m) at c.read_record.ensures) in
-    let q = refuses_then _ (read_refused l.place s _ (read_is ∙ c.in-Refused.is)) in
-    let r = refused_gathered _ c.refused-in-Refused.ensures
-    (rw (← l.invariant.rest, records_next s l.place some) (refuses_then (λ fs. done (take l.n l.raw ++ spaced fs)) q)) in
-    record { answered = r.0; length_bound = r.1 }
+pub returns-in_err-record : goal.returns-in_err-record
+returns-in_err-record c =
+    let s = c.loop-rest.rest.now in
+    let p = err_from_is_err_and c.from_residual.result c.from_residual.ensures.1 in
+    let some : length s ≡ 0 → ⊥ = eqb-false _ _ (sym c.is_empty-in-loop-rest.ensures ∙ c.loop-rest-test.true) in
+    let r = read_refused c.loop-rest.before s _ (sym c.in_err-record.ensures) in
+    rw (p.1, p.2, ← c.loop-rest.invariant.all, records_next s c.loop-rest.before (omega arith), r)
 
 pub slice_bounds-append_field-end : goal.slice_bounds-append_field-end
 slice_bounds-append_field-end c =
-    let l = c.loop-at in
-    let m = c.args.message.now in
-    let s = drop l.at m in
-    let some : 0 < length s = rw length-drop (omega arith) in
-    let read_is : read_of s (record_field l.place s) ≡ c.read_record.result = sym (rw (part_rest l.at m) at c.read_record.ensures) in
-    let r = read_field l.place s c.in-Field.field c.in-Field.end (read_is ∙ c.in-Field.is) in
-    let within : l.at + c.in-Field.end ≤ length m = omega (arith, r.0.whole, r.2, length-drop l.at m) in
-    rw (part_rest l.at m) (omega (arith, r.0.whole, r.2))
+    let r = read_field c.loop-rest.before c.loop-rest.rest.now c.in_ok-record.record (sym c.in_ok-record.ensures) in
+    omega (arith, r.0.whole, r.2)
 
-pub overflow_add-at : goal.overflow_add-at
-overflow_add-at c =
-    let l = c.loop-at in
-    let m = c.args.message.now in
-    let s = drop l.at m in
-    let some : 0 < length s = rw length-drop (omega arith) in
-    let read_is : read_of s (record_field l.place s) ≡ c.read_record.result = sym (rw (part_rest l.at m) at c.read_record.ensures) in
-    let r = read_field l.place s c.in-Field.field c.in-Field.end (read_is ∙ c.in-Field.is) in
-    let within : l.at + c.in-Field.end ≤ length m = omega (arith, r.0.whole, r.2, length-drop l.at m) in
-    omega arith
-
-pub loop-at-smaller : goal.loop-at-smaller
-loop-at-smaller c =
-    let l = c.loop-at in
-    let m = c.args.message.now in
-    let s = drop l.at m in
-    let some : 0 < length s = rw length-drop (omega arith) in
-    let read_is : read_of s (record_field l.place s) ≡ c.read_record.result = sym (rw (part_rest l.at m) at c.read_record.ensures) in
-    let r = read_field l.place s c.in-Field.field c.in-Field.end (read_is ∙ c.in-Field.is) in
-    let within : l.at + c.in-Field.end ≤ length m = omega (arith, r.0.whole, r.2, length-drop l.at m) in
-    omega (arith, r.2)
-
-pub loop-at-preserved : goal.loop-at-preserved
-unfolding field_of
-loop-at-preserved c =
-    let l = c.loop-at in
-    let m = c.args.message.now in
-    let s = drop l.at m in
-    let some : 0 < length s = rw length-drop (omega arith) in
-    let read_is : read_of s (record_field l.place s) ≡ c.read_record.result = sym (rw (part_rest l.at m) at c.read_record.ensures) in
-    let r = read_field l.place s c.in-Field.field c.in-Field.end (read_is ∙ c.in-Field.is) in
-    let within : l.at + c.in-Field.end ≤ length m = omega (arith, r.0.whole, r.2, length-drop l.at m) in
+pub append_field-requires : goal.append_field-requires
+append_field-requires c =
+    let s = c.loop-rest.rest.now in
+    let r = read_field c.loop-rest.before s c.in_ok-record.record (sym c.in_ok-record.ensures) in
     let f = field_of s in
-    let a = r.0 in
-    let grows = room_grows l.place f.number f.body a.order a.form in
-    let fits : l.n + length (spaced_field (rule f.number) f.body) ≤ length l.raw =
-    omega (arith, l.invariant.count, l.invariant.memory, grows, room_short (After f.number)) in
-    let size : c.in-Field.end - 4 ≡ body_size s = omega (arith, r.2) in
-    let field_is : spaced_field c.rule_of.result (take (c.in-Field.end - 4) (drop 4 (take (length m - l.at) s))) ≡ spaced_field (rule f.number) f.body =
-    rw (c.rule_of.ensures, r.1, part_rest l.at m, size) in
-    let appended = (rw field_is at c.append_field-n.ensures) fits in
-    record {
-      within = within;
-      count = rw r.1 (omega (arith, appended.end, l.invariant.count, grows));
-      memory = omega arith;
-      rest =
-          rw (appended_front appended fits, r.1, r.2, ← drop-drop (4 + body_size s) l.at m)
-          (sym (following_field (take l.n l.raw) f (records 0 (After f.number) (drop (4 + body_size s) s)))
-          ∙ (rw (records_next s l.place some, a.field) at l.invariant.rest));
-    }
+    rw (body_read c.loop-rest.before s c.in_ok-record.record r.2, r.1)
+    (omega (arith, c.loop-rest.invariant.count, room_grows c.loop-rest.before f.number f.body r.0.order r.0.form, room_short (Some f.number)))
+
+pub slice_bounds-rest-count : goal.slice_bounds-rest-count
+slice_bounds-rest-count c =
+    let r = read_field c.loop-rest.before c.loop-rest.rest.now c.in_ok-record.record (sym c.in_ok-record.ensures) in
+    omega (arith, r.0.whole, r.2)
+
+pub slice_bounds-rest-start : goal.slice_bounds-rest-start
+slice_bounds-rest-start c =
+    let r = read_field c.loop-rest.before c.loop-rest.rest.now c.in_ok-record.record (sym c.in_ok-record.ensures) in
+    omega (arith, r.0.whole, r.2)
+
+pub loop-rest-preserved : goal.loop-rest-preserved
+loop-rest-preserved c =
+    let s = c.loop-rest.rest.now in
+    let t = c.loop-rest.text.items in
+    let r = read_field c.loop-rest.before s c.in_ok-record.record (sym c.in_ok-record.ensures) in
+    let f = field_of s in
+    let some : length s ≡ 0 → ⊥ = eqb-false _ _ (sym c.is_empty-in-loop-rest.ensures ∙ c.loop-rest-test.true) in
+    let grows = room_grows c.loop-rest.before f.number f.body r.0.order r.0.form in
+    let text : c.append_field.new.text.items ≡ t ++ spaced_field (rule f.number) f.body =
+    rw (body_read c.loop-rest.before s c.in_ok-record.record r.2, r.1) at c.append_field.ensures in
+    rw (text, part_rest c.in_ok-record.record.end s, r.1, r.2)
+    (record {
+      count = rw length-append (omega (arith, c.loop-rest.invariant.count, grows));
+      all =
+          sym (following_field t f (records 0 (Some f.number) (drop (4 + body_size s) s)))
+          ∙ (rw (records_next s c.loop-rest.before (omega arith), r.0.field) at c.loop-rest.invariant.all);
+    })
 
 pub returns : goal.returns
 returns c =
-    let l = c.loop-at in
-    let none = drop_of_length-le c.args.message.now {i = l.at} c.loop-at-test.false in
-    let all = sym (rw none at l.invariant.rest) ∙ following_end (take l.n l.raw) l.place in
-    record {
-      answered = rw all (record { number = refl; value = refl });
-      length_bound = omega (arith, l.invariant.count, room_short l.place);
-    }
+    let s = c.loop-rest.rest.now in
+    let none : s ≡ [] = empty s (eqb-true _ _ (sym c.is_empty-in-loop-rest.ensures ∙ c.loop-rest-test.false)) in
+    sym (following_end c.loop-rest.text.items c.loop-rest.before) ∙ (rw none at c.loop-rest.invariant.all)
+  where
+    empty : (s : List ℕ) → length s ≡ 0 → s ≡ []
+    empty [] e = refl
+    empty (x ∷ s) e = absurd (omega arith)

@@ -1,14 +1,14 @@
-use Rattle.lent.proofs.Results.{answered_done, answered_refused, refused_answer, refuses_then}
-use Rattle.pinblock.specs.Entries.{read_with_card, decrypt_with_card}
+use Rattle.std.proofs.Common.{arith}
+use Rattle.std.proofs.lemmas.Grind.{common_steps}
+use Rattle.lent.proofs.Results.{same_writes}
+use Rattle.pinblock.proofs.Writing.{stopped}
+use Rattle.pinblock.specs.Entries.{decrypt_with_card}
 use Rattle.pinblock.proofs.encrypted.decrypt_with_card.Goals as goal
 
-pub returns-then-clear-ne-DONE : goal.returns-then-clear-ne-DONE
+pub returns-in_err-decrypt_block : goal.returns-in_err-decrypt_block
 unfolding decrypt_with_card
-returns-then-clear-ne-DONE c =
-    refused_answer c.refused.ensures
-    (refuses_then (λ clear. read_with_card clear _) (answered_refused 8 _ c.decrypt_block-clear.ensures c.if-clear-ne-DONE.true))
+returns-in_err-decrypt_block c = stopped c.in_err-decrypt_block.field-0.0 (grind (arith, common_steps)) (grind (arith, common_steps))
 
 pub returns : goal.returns
 unfolding decrypt_with_card
-returns c =
-    rw (answered_done 8 _ c.decrypt_block-clear.ensures c.if-clear-ne-DONE.false) c.read_with_card.ensures
+returns c = same_writes (grind (arith, common_steps)) c.read_with_card.ensures

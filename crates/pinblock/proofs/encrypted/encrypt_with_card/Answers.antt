@@ -1,6 +1,7 @@
+use Rattle.std.proofs.Common.{rules}
 use Rattle.pinblock.specs.Entries.{encrypt_with_card}
 use Rattle.pinblock.proofs.encrypted.encrypt_with_card.Goals as goal
 
 pub returns : goal.returns
 unfolding encrypt_with_card
-returns c = c.under_key.ensures _ c.make_with_card.ensures
+returns c = search rules

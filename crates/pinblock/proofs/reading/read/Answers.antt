@@ -1,15 +1,14 @@
-use borrow.Author.Tests.{eq-eqb, ne_eqb}
-use mathlib.Core.Path.{refl}
-use Rattle.lent.specs.Refusals.{size}
-use Rattle.lent.proofs.Results.{refused_answer}
+use Rattle.std.proofs.Common.{arith}
+use Rattle.std.proofs.lemmas.Grind.{common_steps}
+use Rattle.lent.proofs.Results.{same_writes}
+use Rattle.pinblock.proofs.Writing.{stopped}
 use Rattle.pinblock.specs.Entries.{read}
 use Rattle.pinblock.proofs.reading.read.Goals as goal
 
-pub returns-then-block-ne8 : goal.returns-then-block-ne8
+pub returns-in_err-block_word : goal.returns-in_err-block_word
 unfolding read
-returns-then-block-ne8 c = refused_answer c.refused.ensures (size, refl, simp (ne_eqb _ _ c.if-block-ne8.true))
+returns-in_err-block_word c = stopped c.in_err-block_word.field-0.0 (grind (arith, common_steps)) (grind (arith, common_steps))
 
 pub returns : goal.returns
 unfolding read
-returns c =
-    simp (eq-eqb _ _ c.if-block-ne8.false, ← c.word_of.ensures) c.read_word.ensures
+returns c = same_writes (grind (arith, common_steps)) c.read_word.ensures

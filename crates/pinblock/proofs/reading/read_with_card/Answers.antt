@@ -1,28 +1,18 @@
-use borrow.Author.Tests.{eq-eqb, ne_eqb}
-use mathlib.Core.Path.{refl, sym, ◌∙◌}
-use Rattle.lent.specs.Refusals.{size, character}
-use Rattle.lent.proofs.Results.{refused_answer}
+use Rattle.std.proofs.Common.{arith}
+use Rattle.std.proofs.lemmas.Grind.{common_steps}
+use Rattle.lent.proofs.Results.{same_writes}
+use Rattle.pinblock.proofs.Writing.{stopped}
 use Rattle.pinblock.specs.Entries.{read_with_card}
 use Rattle.pinblock.proofs.reading.read_with_card.Goals as goal
 
-pub returns-then-block-ne8 : goal.returns-then-block-ne8
+pub returns-in_err-block_word : goal.returns-in_err-block_word
 unfolding read_with_card
-returns-then-block-ne8 c = refused_answer c.refused.ensures (size, refl, simp (ne_eqb _ _ c.if-block-ne8.true))
-
-pub returns-then-not-card_sized : goal.returns-then-not-card_sized
-unfolding read_with_card
-returns-then-not-card_sized c =
-    let no = sym c.card_sized.ensures ∙ c.if-not-card_sized.true in
-    refused_answer c.refused-then-not-card_sized.ensures (size, refl, simp (eq-eqb _ _ c.if-block-ne8.false, no))
-
-pub returns-then-not-all_digits : goal.returns-then-not-all_digits
-unfolding read_with_card
-returns-then-not-all_digits c =
-    let no = sym c.all_digits.ensures ∙ c.if-not-all_digits.true in
-    refused_answer c.refused-then-not-all_digits.ensures (character, refl, simp (eq-eqb _ _ c.if-block-ne8.false, (sym c.card_sized.ensures ∙ c.if-not-card_sized.false), no))
+returns-in_err-block_word c = stopped c.in_err-block_word.field-0.0 (grind (arith, common_steps)) (grind (arith, common_steps))
 
 pub returns : goal.returns
 unfolding read_with_card
-returns c =
-    simp (eq-eqb _ _ c.if-block-ne8.false, (sym c.card_sized.ensures ∙ c.if-not-card_sized.false), (sym c.all_digits.ensures ∙ c.if-not-all_digits.false), ← c.word_of.ensures, ← c.card_part.ensures)
-    c.read_word.ensures
+returns c = same_writes (grind (arith, common_steps)) c.read_word.ensures
+
+pub returns-in_err-card_part : goal.returns-in_err-card_part
+unfolding read_with_card
+returns-in_err-card_part c = stopped c.in_err-card_part.field-0.0 (grind (arith, common_steps)) (grind (arith, common_steps))

@@ -1,20 +1,13 @@
-use borrow.Author.Rules.{rules}
-use mathlib.Core.Path.{◌≡◌, refl}
-use native.Mathlib.Omega.{arith}
-use lib.ListN.{length-set}
-use Rattle.pinblock.proofs.HalfBytes.{text_written}
+use Rattle.std.proofs.Common.{rules, ℕ, ◌+◌, get_or, arith}
+use Rattle.lent.proofs.Library.{from_calls}
+use Rattle.lent.specs.Characters.{digit_of}
+use Rattle.lent.specs.Words.{to_base}
+use Rattle.pinblock.proofs.HalfBytes.{text_from_half_bytes}
 use Rattle.pinblock.proofs.reading.text_of.Goals as goal
 
-pub loop-i-init : goal.loop-i-init
-loop-i-init c = (search rules, refl, refl)
-
-pub loop-i-preserved : goal.loop-i-preserved
-loop-i-preserved c =
-    let l = c.loop-i in (
-      omega arith,
-      simp length-set l.invariant.1,
-      text_written l.text c.args.block l.i c.half_byte.result (omega (arith, c.requires)) l.invariant.1 c.half_byte.ensures.0 l.invariant.2,
-    )
-
 pub returns : goal.returns
-returns c = let e : c.loop-i.i ≡ c.args.count = omega arith in rw e at c.loop-i.invariant.2
+returns c =
+    let x = c.args.block in
+    let at : ℕ → ℕ = λ i. digit_of (get_or (to_base 16 16 x) (2 + i) 0) in
+    text_from_half_bytes x c.from_fn.result (search rules)
+    (λ i h. from_calls _ at _ (λ j y q k. search rules) c.from_fn.result 0 12 c.from_fn.ensures.items.each i (omega arith) (omega arith))

@@ -1,12 +1,10 @@
-use mathlib.Core.List.{List}
-use mathlib.Core.Path.{ap}
-use Prim.Native.Nat.{ℕ}
-use lib.ListN.{take, drop}
+use mathlib.Core.Path.{◌≡◌}
+use Rattle.std.proofs.Common.{div-one}
 use Rattle.lent.specs.Words.{to_base}
 use Rattle.recordbytes.proofs.parts.put_number.Goals as goal
 
 pub returns : goal.returns
 unfolding to_base
 returns c =
-    let word = c.bytes_of-word.ensures in
-    rw (ap (λ (w : List ℕ). take 4 (drop 4 w)) word) at c.put.ensures
+    let bytes : c.to_be_bytes.result ≡ to_base 256 4 c.args.x = rw div-one c.to_be_bytes.ensures in
+    rw bytes at c.put.ensures

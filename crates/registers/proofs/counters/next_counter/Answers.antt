@@ -29,14 +29,14 @@ returns-then-c-lt10 c = rw (lt-ltb c.args.c last_counter (omega arith), lt-ltb (
 pub overflow_shl-result : goal.overflow_shl-result
 overflow_shl-result c = omega (arith, place_lt c.args.c (some _ (omega arith)) (omega arith))
 
-pub overflow_add-result-2 : goal.overflow_add-result-2
-overflow_add-result-2 c =
+pub overflow_add-result-else-c-lt10 : goal.overflow_add-result-else-c-lt10
+overflow_add-result-else-c-lt10 c =
     let x = c.args.c in
     let pos : 1 ≤ x = some x (omega arith) in
     omega (arith, shifted x pos (omega arith), lowest_le (lowest x pos (omega arith)))
 
-pub returns : goal.returns
+pub returns-else-c-lt10 : goal.returns-else-c-lt10
 unfolding next_counter next_after
-returns c =
+returns-else-c-lt10 c =
     let x = c.args.c in
     rw (lt-ltb x last_counter (omega arith), le-ltb (ones x) 10 (omega arith)) (ap (λ (y : ℕ). x + y) (shifted x (some x (omega arith)) (omega arith)))

@@ -1,31 +1,24 @@
-use borrow.Author.Rules.{rules}
-use mathlib.Core.Path.{◌≡◌, sym, ap, ◌∙◌}
-use Prim.Native.Nat.{ℕ, ◌+◌}
+use mathlib.Core.Path.{◌≡◌, sym}
+use Prim.Native.Nat.{◌+◌, ◌^◌}
 use native.Mathlib.Omega.{arith}
 use Rattle.registers.specs.Machine.{stepped}
 use Rattle.registers.proofs.Laws.{bit_moved, fill_none, fill_turn}
-use Rattle.host.specs.SingleLength.{one_way, single_length}
 use Rattle.terminal.proofs.filling.filled_from.Goals as goal
 
 pub loop-b-init : goal.loop-b-init
-loop-b-init c = (search rules, sym (fill_none _ _))
+loop-b-init g c = sym (fill_none _ _)
 
-pub overflow_add-c : goal.overflow_add-c
-overflow_add-c c =
-    omega (arith, bit_moved c.loop-b.b c.args.n c.args.c (omega arith) c.requires.n_bound c.requires.counter_bound)
-
-pub overflow_add-tail : goal.overflow_add-tail
-overflow_add-tail c =
-    omega (arith, bit_moved c.loop-b.b c.args.n c.args.c (omega arith) c.requires.n_bound c.requires.counter_bound, c.wide.ensures)
+pub with_bits-requires : goal.with_bits-requires
+with_bits-requires g c =
+    let a = c.args in
+    let bit = bit_moved c.loop-b.b a.n a.c (omega arith) c.requires.n_bound c.requires.counter_bound in
+    omega (arith, bit)
 
 pub loop-b-preserved : goal.loop-b-preserved
-loop-b-preserved c =
+loop-b-preserved g c =
     let a = c.args in
     let l = c.loop-b in
+    let device = g.K.RegisterKey.device in
     let bit = (bit_moved l.b a.n a.c (omega arith) c.requires.n_bound c.requires.counter_bound).0 in
-    let e = c.wide.ensures ∙ ap (λ (x : ℕ). a.c + x) bit in
-    let key = c.one_way.ensures ∙ ap (λ (x : ℕ). one_way a.key (a.tail + x)) e in
-    (search rules, fill_turn l.b (stepped single_length a.key a.tail a.c) _ _ _ l.invariant.1 key)
-
-pub returns : goal.returns
-returns c = let e : c.loop-b.b ≡ c.args.n = omega arith in rw (← e) c.loop-b.invariant.1
+    let bits : c.with_bits.result ≡ a.tail.word + (a.c + 2 ^ l.b) = omega (arith, c.with_bits.ensures, bit) in
+    fill_turn l.b (stepped device a.key a.tail.word a.c) _ _ _ l.invariant (rw bits at c.one_way.ensures)

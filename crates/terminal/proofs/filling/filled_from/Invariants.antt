@@ -1,11 +1,6 @@
 use mathlib.Core.Path.{◌≡◌}
-use Prim.Native.Nat.{◌-◌, ◌≤◌}
 use Rattle.registers.specs.Machine.{fill, stepped}
-use Rattle.host.specs.SingleLength.{single_length}
 use Rattle.terminal.proofs.filling.filled_from.Given as goal
 
 abbrev pub invariant-loop-b : goal.invariant-loop-b
-invariant-loop-b l = (l.b ≤ l.n) × (l.out ≡ fill l.b (stepped single_length l.key l.tail l.c) l.initial.out)
-
-abbrev pub decreases-loop-b : goal.decreases-loop-b
-decreases-loop-b l = l.n - l.b
+invariant-loop-b g l = l.filled ≡ fill l.b (stepped g.K.RegisterKey.device l.key l.tail.word l.c) l.fn.keys

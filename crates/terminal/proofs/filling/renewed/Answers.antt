@@ -1,50 +1,27 @@
+use borrow.Author.Rules.{rules}
+use mathlib.Core.Path.{◌≡◌, sym}
 use Prim.Native.Nat.{◌<◌}
 use native.Mathlib.Omega.{arith}
-use Rattle.registers.proofs.Laws.{place_lt, place_room, renewed_few, renewed_full}
-use Rattle.host.specs.SingleLength.{single_length}
+use lib.ListN.{length}
+use Rattle.std.proofs.lemmas.List.{get_or_default}
+use Rattle.registers.proofs.Laws.{place_room, renewed_few, renewed_full}
 use Rattle.terminal.proofs.filling.renewed.Goals as goal
+use Rattle.terminal.proofs.filling.renewed.Goals.{then-counter-lt10, else-counter-lt10}
 
-pub offset_bounds-keys-l : goal.offset_bounds-keys-l
-offset_bounds-keys-l c =
-    let place : c.lowest_place-l.result < 21 = let ok = c.requires.permitted in omega (arith, c.lowest_place-l.ensures, place_lt c.args.c ok.from_one ok.fits) in
-    omega (arith, place)
-
-pub bounds-keys-l : goal.bounds-keys-l
-bounds-keys-l c =
-    let place : c.lowest_place-l.result < 21 = let ok = c.requires.permitted in omega (arith, c.lowest_place-l.ensures, place_lt c.args.c ok.from_one ok.fits) in
-    omega (arith, place)
-
-pub filled_from-few-requires : goal.filled_from-few-requires
-filled_from-few-requires c =
-    let place : c.lowest_place-l.result < 21 = let ok = c.requires.permitted in omega (arith, c.lowest_place-l.ensures, place_lt c.args.c ok.from_one ok.fits) in
-    record { n_bound = omega (arith, place); counter_bound = rw c.lowest_place-l.ensures (place_room c.args.c c.requires.permitted); tail_bound = c.requires.tail_bound }
-
-pub offset_bounds-few-l : goal.offset_bounds-few-l
-offset_bounds-few-l c =
-    let place : c.lowest_place-l.result < 21 = let ok = c.requires.permitted in omega (arith, c.lowest_place-l.ensures, place_lt c.args.c ok.from_one ok.fits) in
-    omega (arith, place)
-
-pub bounds-few-l : goal.bounds-few-l
-bounds-few-l c =
-    let place : c.lowest_place-l.result < 21 = let ok = c.requires.permitted in omega (arith, c.lowest_place-l.ensures, place_lt c.args.c ok.from_one ok.fits) in
-    omega (arith, place)
-
-pub returns-then-c-lt10 : goal.returns-then-c-lt10
-returns-then-c-lt10 c =
-    let a = c.args in
-    rw (renewed_few single_length a.keys a.tail a.c c.if-c-lt10.true, c.filled_from-few.ensures, c.lowest_place-l.ensures)
-
-pub offset_bounds-kept-l : goal.offset_bounds-kept-l
-offset_bounds-kept-l c =
-    let place : c.lowest_place-l.result < 21 = let ok = c.requires.permitted in omega (arith, c.lowest_place-l.ensures, place_lt c.args.c ok.from_one ok.fits) in
-    omega (arith, place)
-
-pub bounds-kept-l : goal.bounds-kept-l
-bounds-kept-l c =
-    let place : c.lowest_place-l.result < 21 = let ok = c.requires.permitted in omega (arith, c.lowest_place-l.ensures, place_lt c.args.c ok.from_one ok.fits) in
-    omega (arith, place)
+pub filled_from-left-requires : goal.filled_from-left-requires
+filled_from-left-requires g c =
+    let k = c.args.counter in (
+      omega (arith, g.met.K.RegisterKey.small),
+      (omega (arith, c.place-l.ensures.bound), rw c.place-l.ensures.value (place_room k.value k.permitted)),
+    )
 
 pub returns : goal.returns
-returns c =
+returns g c =
     let a = c.args in
-    rw (renewed_full single_length a.keys a.tail a.c c.if-c-lt10.false, c.lowest_place-l.ensures)
+    let device = g.K.RegisterKey.device in
+    let size : length a.keys ≡ 21 = search rules in
+    let held : c.place-l.result < length a.keys = omega (arith, c.place-l.ensures.bound, size) in
+    elim c.if-counter-lt10.branch [
+      | then-counter-lt10 w ↦ rw (w.left-is, w.filled_from-left.ensures, c.empty.ensures, get_or_default a.keys c.place-l.result w.index-keys-l.result device.empty held, c.place-l.ensures.value) (sym (renewed_few device a.keys a.tail.word a.counter.value w.if-counter-lt10.true))
+      | else-counter-lt10 w ↦ rw (w.left-is, c.empty.ensures, c.place-l.ensures.value) (sym (renewed_full device a.keys a.tail.word a.counter.value w.if-counter-lt10.false))
+    ]

@@ -1,4 +1,0 @@
-use Rattle.chizuregwo.proofs.cards.czg_arpc.Goals as goal
-
-pub returns : goal.returns
-returns c = c.lend_block.ensures 8 _ c.arpc.ensures

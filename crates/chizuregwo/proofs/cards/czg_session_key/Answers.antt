@@ -1,4 +1,0 @@
-use Rattle.chizuregwo.proofs.cards.czg_session_key.Goals as goal
-
-pub returns : goal.returns
-returns c = c.lend_double_block.ensures 16 _ c.session_key.ensures

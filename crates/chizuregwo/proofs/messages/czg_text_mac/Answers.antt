@@ -1,4 +1,0 @@
-use Rattle.chizuregwo.proofs.messages.czg_text_mac.Goals as goal
-
-pub returns : goal.returns
-returns c = c.lend_mac.ensures _ _ c.text_mac.ensures

@@ -1,4 +1,0 @@
-use Rattle.chizuregwo.proofs.pins.czg_pin_encrypt_with_card.Goals as goal
-
-pub returns : goal.returns
-returns c = c.lend_block.ensures 8 _ c.encrypt_with_card.ensures

@@ -1,4 +1,0 @@
-use Rattle.chizuregwo.proofs.pins.czg_pin_make.Goals as goal
-
-pub returns : goal.returns
-returns c = c.lend_block.ensures 8 _ c.make.ensures

@@ -1,9 +1,0 @@
--- What is left of the bytes falls with each write that takes a byte.
-use Rattle.std.proofs.Common.{length, ◌-◌, ◌≤◌}
-use Rattle.console.proofs.output.write.Given as goal
-
-abbrev pub invariant-loop-done : goal.invariant-loop-done
-invariant-loop-done g l = l.done ≤ length l.bytes
-
-abbrev pub decreases-loop-done : goal.decreases-loop-done
-decreases-loop-done g l = length l.bytes - l.done

@@ -1,3 +1,0 @@
-mod Adding
-mod Bounds
-mod Uncounted

@@ -1,4 +1,0 @@
-use Rattle.doublehost.proofs.keys.key_of.Goals as goal
-
-pub returns : goal.returns
-returns c = rw (c.right_half.ensures, c.word_of.ensures)

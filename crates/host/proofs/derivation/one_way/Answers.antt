@@ -1,6 +1,0 @@
-use Rattle.host.specs.SingleLength.{one_way}
-use Rattle.host.proofs.derivation.one_way.Goals as goal
-
-pub returns : goal.returns
-unfolding one_way
-returns c = c.step.ensures

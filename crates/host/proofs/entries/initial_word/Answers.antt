@@ -1,6 +1,0 @@
-use Rattle.host.specs.SingleLength.{initial_word}
-use Rattle.host.proofs.entries.initial_word.Goals as goal
-
-pub returns : goal.returns
-unfolding initial_word
-returns c = rw (← c.word_of.ensures, ← c.right_half.ensures, ← c.cleared_head.ensures) c.triple_encrypt.ensures

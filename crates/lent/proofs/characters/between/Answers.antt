@@ -1,8 +1,0 @@
-use borrow.Author.Tests.{le-leb, lt-leb}
-use Rattle.lent.proofs.characters.between.Goals as goal
-
-pub returns-then-x-lo : goal.returns-then-x-lo
-returns-then-x-lo c = simp (lt-leb _ _ c.if-x-lo.true)
-
-pub returns : goal.returns
-returns c = simp (le-leb _ _ c.if-x-lo.false)

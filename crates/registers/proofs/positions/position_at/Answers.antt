@@ -1,6 +1,0 @@
-use Rattle.registers.specs.Machine.{position_at}
-use Rattle.registers.proofs.positions.position_at.Goals as goal
-
-pub returns : goal.returns
-unfolding position_at
-returns c = rw c.filled_mask.ensures
