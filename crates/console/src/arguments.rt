@@ -1,5 +1,5 @@
 // The arguments that programs share.
-ghost use Rattle.std.specs.Prelude.{◌≡◌, ltb, IsTrue, ◌↔◌, IfSome, false};
+ghost use Rattle.std.specs.Prelude.{◌≡◌, ltb, IsTrue, ◌↔◌, false};
 ghost use Rattle.std.specs.Io.KnownBytes.{Keeps};
 ghost use Rattle.console.specs.Arguments.{AsksForHelp};
 ghost use Rattle.console.specs.Counts.{IsPrefixLen, WritesPart};
@@ -16,11 +16,11 @@ pub fn argument_count<V: Env>(env: &V) -> usize {
         .unwrap_or(usize::MAX)
 }
 
-// Puts an argument at the start of `buf` and gives its length, where there is one and it is no longer than `buf`.
-pub fn argument<V: Env>(env: &V, i: usize, buf: &mut [u8]) -> Option<usize>
-    ensures { IfSome result (λ n. IsPrefixLen n buf.new) }
+// Puts an argument at the start of `buf` and gives its length, or 0 where it is missing or longer than `buf`.
+pub fn argument<V: Env>(env: &V, i: usize, buf: &mut [u8]) -> usize
+    ensures { IsPrefixLen result buf.new }
 {
-    env.arg(i, buf).ok()
+    env.arg(i, buf).unwrap_or(0)
 }
 
 // Whether an argument asks what the program is.
@@ -63,7 +63,7 @@ impl<R: Read, W: Write, E: Write> Console<'_, R, W, E> {
     {
         // room for the longest that asks for help
         let mut first = [0u8; 8];
-        let n = argument(env, 1, &mut first).unwrap_or(0);
+        let n = argument(env, 1, &mut first);
         self.answers_arguments(argument_count(env), &first[..n], usage, help)
     }
 }

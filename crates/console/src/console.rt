@@ -1,5 +1,5 @@
 // A program's streams.
-ghost use Rattle.std.specs.Prelude.{◌<◌, ◌≤◌, length, take, IfOk, OnOk};
+ghost use Rattle.std.specs.Prelude.{◌<◌, ◌≤◌, length, take, IfOk, IfErr, OnOk};
 ghost use Rattle.std.specs.Io.KnownBytes.{Appends, Consumes, IsAtEnd, ReadConsumes, WriteAppends};
 ghost use Rattle.console.specs.Counts.{IsPrefixLen, WritesPart};
 
@@ -17,9 +17,11 @@ pub struct Console<'a, R, W, E> {
 // The streams that a program is started with.
 pub type Standard<'a> = Console<'a, Stdin, Stdout, Stderr>;
 
-// A read or a write failed, and that was told on standard error.
+// A read or a write failed, and that was told on standard error. Of the bytes that were to be written, so many were.
 #[derive(Clone, Copy, Debug, PartialEq, Eq)]
-pub struct Told(());
+pub struct Told {
+    pub written: usize,
+}
 
 // Where errno's text ends in what an error prints: before its number in brackets, which is not told.
 fn text_end(shown: &[u8]) -> usize
@@ -38,7 +40,7 @@ fn tell<E: Write>(errors: &mut E, who: &[u8], what: &[u8], error: Error) -> Told
     for part in [who, b": ", what, b": ", &shown[..end], b"\n"] {
         let _ = errors.write_all(part);
     }
-    Told(())
+    Told { written: 0 }
 }
 
 impl<R: Read, W: Write, E: Write> Console<'_, R, W, E> {
@@ -87,10 +89,15 @@ impl<R: Read, W: Write, E: Write> Console<'_, R, W, E> {
     pub fn write(&mut self, bytes: &[u8]) -> Result<(), Told>
         ensures all { OnOk result (Appends (W.contents self.old.out) (W.contents self.new.out) bytes.now) }
         ensures part { WritesPart (W.contents self.old.out) (W.contents self.new.out) bytes.now }
+        ensures count { IfErr result (λ told. told.written ≤ length bytes.now) }
+        ensures counted { IfErr result (λ told. Appends (W.contents self.old.out) (W.contents self.new.out) (take told.written bytes.now)) }
     {
         let mut done = 0;
         while done < bytes.len() {
-            done += self.write_some(&bytes[done..])?;
+            match self.write_some(&bytes[done..]) {
+                Ok(n) => done += n,
+                Err(_) => return Err(Told { written: done }),
+            }
         }
         Ok(())
     }

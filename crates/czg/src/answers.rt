@@ -1,4 +1,6 @@
 // The lines of the answers.
+ghost use Rattle.std.specs.Prelude.{[], ◌≡◌, OnOk};
+
 use crate::faults::Fault;
 use crate::inputs::Inputs;
 use arrayvec::ArrayVec;
@@ -33,8 +35,10 @@ impl Answers {
         }
     }
 
-    // Writes what there is to standard output.
-    pub(crate) fn flush(&mut self, console: &mut Standard<'_>) -> Result<(), Told> {
+    // Writes what there is to standard output; none of it is written again.
+    pub(crate) fn flush(&mut self, console: &mut Standard<'_>) -> Result<(), Told>
+        ensures { OnOk result (self.new.lines.items ≡ []) }
+    {
         console.write(self.lines.as_slice())?;
         self.lines.clear();
         Ok(())

@@ -1,5 +1,5 @@
 // The calls of the entries. A number is in its range, as it was read.
-ghost use Rattle.std.specs.Prelude.{◌≤◌};
+ghost use Rattle.std.specs.Prelude.{◌≤◌, take};
 ghost use Rattle.lent.specs.Result.{Writes};
 ghost use Rattle.cleaning.specs.Counts.{WritesText};
 ghost use Rattle.czg.specs.Private.{answer_for, text_answer_for, text_for};
@@ -54,6 +54,18 @@ impl Entry {
         }
     }
 
+    // Calls the entry with so much room for its value.
+    pub(crate) fn call_with_room(
+        self,
+        i: &Inputs,
+        rooms: Rooms,
+        value: &mut [u8; MOST_ROOM],
+    ) -> Result<usize, Refusal>
+        ensures { Writes (answer_for self i.now) (take rooms.first value.old) result (take rooms.first value.new) }
+    {
+        self.call(i, &mut value[..rooms.first])
+    }
+
     // How its value is written: a PIN, a password, a VIP number and a meaning are texts.
     pub(crate) fn form(self) -> Form {
         match self {
@@ -82,6 +94,18 @@ impl TextEntry {
             TextEntry::TextMac => messages::czg_text_mac(a, b, out),
             TextEntry::MessageMac => messages::czg_message_mac(a, b, out),
         }
+    }
+
+    // Calls the entry with so much room for its value.
+    pub(crate) fn call_with_room(
+        self,
+        i: &Inputs,
+        rooms: Rooms,
+        text: &mut [u8; MOST_ROOM],
+    ) -> Result<Cleaned, Refusal>
+        ensures { WritesText (text_answer_for self i.now) (text_for self i.now) (take rooms.first text.old) result (take rooms.first text.new) }
+    {
+        self.call(i, &mut text[..rooms.first])
     }
 
     // How its value is written.

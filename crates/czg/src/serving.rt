@@ -31,7 +31,7 @@ impl<'a> Service<'a> {
     // Answers a request with one value.
     fn answer_value(&mut self, entry: Entry, rooms: Rooms) -> Result<(), Refusal> {
         let mut value = [0u8; MOST_ROOM];
-        let length = entry.call(&self.inputs, &mut value[..rooms.first])?;
+        let length = entry.call_with_room(&self.inputs, rooms, &mut value)?;
         self.answers.put(b"done");
         self.answers.put_value(entry.form(), &value[..length]);
         self.answers.put(b"\n");
@@ -41,7 +41,7 @@ impl<'a> Service<'a> {
     // Answers a request with one value, and with what cleaning threw away.
     fn answer_text(&mut self, entry: TextEntry, rooms: Rooms) -> Result<(), Refusal> {
         let mut value = [0u8; MOST_ROOM];
-        let cleaned = entry.call(&self.inputs, &mut value[..rooms.first])?;
+        let cleaned = entry.call_with_room(&self.inputs, rooms, &mut value)?;
         self.answers.put(b"done");
         self.answers
             .put_value(entry.form(), &value[..cleaned.length]);

@@ -1,5 +1,5 @@
 // The parts of a record's bytes that every device has.
-ghost use Rattle.std.specs.Prelude.{◌≡◌, length, MatchOption};
+ghost use Rattle.std.specs.Prelude.{◌≡◌, length};
 ghost use Rattle.lent.specs.Private.{Appends};
 ghost use Rattle.recordbytes.specs.Parts.{joined, cut};
 ghost use Rattle.recordbytes.specs.RecordBytes.{number_bytes, rest_sizes, rest_parts, serial_in, position_in};
@@ -46,21 +46,28 @@ pub fn put_rest(bytes: &mut [u8], n: usize, rest: Rest) -> usize
 
 // ---- reading
 
-// What 19 bytes after the registers say; other bytes say nothing.
-pub fn rest_of(bytes: &[u8]) -> Option<Rest>
-    ensures { MatchOption result (¬ (length bytes.now ≡ 19)) (λ rest. (length bytes.now ≡ 19) × (rest.serial ≡ serial_in (cut rest_sizes bytes.now)) × (rest.position ≡ position_in (cut rest_sizes bytes.now))) }
+// What 19 bytes after the registers say; other bytes say zeros.
+pub fn rest_of(bytes: &[u8]) -> Rest
+    ensures { length bytes.now ≡ 19 → (result.serial ≡ serial_in (cut rest_sizes bytes.now)) × (result.position ≡ position_in (cut rest_sizes bytes.now)) }
 {
-    if bytes.len() != 19 {
-        return None;
-    }
     let mut serial = [0u8; 10];
+    if bytes.len() != 19 {
+        return Rest {
+            serial,
+            position: Position {
+                counter: 0,
+                filled: 0,
+                exhausted: false,
+            },
+        };
+    }
     serial.copy_from_slice(&bytes[4..14]);
-    Some(Rest {
+    Rest {
         serial,
         position: Position {
             counter: lent::number_of(&bytes[14..18]),
             filled: lent::number_of(&bytes[..4]),
             exhausted: bytes[18] == 1,
         },
-    })
+    }
 }

@@ -45,12 +45,11 @@ pub struct Tail {
 }
 
 impl Tail {
-    // The data of a step: those bytes with these bits of a counter set.
+    // The data of a step: those bytes with these bits of a counter set. Bits above a counter's are left out.
     pub fn with_bits(self, bits: u32) -> u64
-        requires { bits < 2 ^ 21 }
-        ensures { result ≡ self.word + bits }
+        ensures { result ≡ self.word + bits % 2 ^ 21 }
     {
-        self.word + lent::wide(bits)
+        self.word + lent::wide(bits % 0x20_0000)
     }
 }
 

@@ -60,11 +60,11 @@ fn registers_of<K: RegisterKey>(bytes: &[u8]) -> [K; 21]
 pub(crate) fn terminal_of<K: RegisterKey>(bytes: &[u8]) -> Option<Terminal<K>>
     ensures { MatchOption result (¬ (length bytes.now ≡ record_size K.device)) (λ t. (length bytes.now ≡ record_size K.device) × (view t ≡ state_of K.device bytes.now)) }
 {
-    let at = 21 * K::size();
-    if bytes.len() < at {
+    if bytes.len() != record_size::<K>() {
         return None;
     }
-    let rest = recordbytes::rest_of(&bytes[at..])?;
+    let at = 21 * K::size();
+    let rest = recordbytes::rest_of(&bytes[at..]);
     let keys = registers_of(&bytes[..at]);
     Some(Terminal::new(keys, rest.serial, rest.position))
 }

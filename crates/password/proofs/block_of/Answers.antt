@@ -1,4 +1,4 @@
-use Rattle.std.proofs.Common.{rules, ◌≡◌, ◌∙◌, Err, sym}
+use Rattle.std.proofs.Common.{rules, ◌≡◌, ◌∙◌, ◌+◌, ◌≤◌, length, Err, sym}
 use Rattle.lent.specs.Characters.{graphic}
 use Rattle.lent.proofs.ReadsBack.{of_permitted, of_refused}
 use Rattle.password.specs.Password.{password_block, make}
@@ -14,4 +14,5 @@ returns-in_err-permitted c =
 pub returns : goal.returns
 unfolding make password_block
 returns c =
-    rw c.framed.ensures (sym (of_permitted 24 6 20 graphic password_block c.args.password.now (sym c.permitted.ensures ∙ c.in_ok-permitted.was)))
+    let room : 2 + length c.args.password.now ≤ 24 = search rules in
+    rw (c.framed.ensures.fits room) (sym (of_permitted 24 6 20 graphic password_block c.args.password.now (sym c.permitted.ensures ∙ c.in_ok-permitted.was)))

@@ -1,4 +1,4 @@
-use Rattle.std.proofs.Common.{rules, ◌≡◌, ◌∙◌, Err, refl, sym}
+use Rattle.std.proofs.Common.{rules, ◌≡◌, ◌∙◌, ◌+◌, ◌≤◌, length, Err, refl, sym}
 use Rattle.lent.specs.Characters.{digit}
 use Rattle.lent.proofs.ReadsBack.{passed, of_permitted, of_refused}
 use Rattle.vip.specs.Vip.{block_text, vip_block, make}
@@ -15,14 +15,16 @@ returns-in_err-permitted c =
 pub returns-in_err-text_bytes : goal.returns-in_err-text_bytes
 unfolding block_text
 returns-in_err-text_bytes c =
+    let room : 2 + length c.args.digits.now ≤ 32 = search rules in
     let h = passed 16 11 19 digit vip_block c.args.digits.now (sym c.permitted.ensures ∙ c.in_ok-permitted.was) in
-    let k = block_written c.args.digits.now h refl (rw c.framed-text.ensures at c.text_bytes.ensures) in
+    let k = block_written c.args.digits.now h refl (rw (c.framed-text.ensures.fits room) at c.text_bytes.ensures) in
     absurd (let e = sym k.0 ∙ c.in_err-text_bytes.was in cc)
 
 pub returns : goal.returns
 unfolding make block_text
 returns c =
+    let room : 2 + length c.args.digits.now ≤ 32 = search rules in
     let digits = c.args.digits.now in
     let tests = sym c.permitted.ensures ∙ c.in_ok-permitted.was in
-    let k = block_written digits (passed 16 11 19 digit vip_block digits tests) refl (rw c.framed-text.ensures at c.text_bytes.ensures) in
+    let k = block_written digits (passed 16 11 19 digit vip_block digits tests) refl (rw (c.framed-text.ensures.fits room) at c.text_bytes.ensures) in
     rw k.1 (sym (of_permitted 16 11 19 digit vip_block digits tests))

@@ -11,5 +11,5 @@ pub returns : goal.returns
 returns c =
     let n = c.args.number in
     let d = c.decimal-count.ensures in
-    let all : c.extend.new.buffer.items ≡ c.args.out.now.items ++ decimal n = rw (sym (d.digits ∙ decimal_digits _ n d.len (search rules))) c.extend.ensures in
+    let all : c.extend.new.buffer.items ≡ c.args.out.now.items ++ decimal n = rw (sym (d.digits ∙ decimal_digits _ n d.len (search rules))) (c.extend.ensures.fits (search rules)) in
     record { appended = all; short = rw (all, length-append) (omega (arith, decimal_short n)) }

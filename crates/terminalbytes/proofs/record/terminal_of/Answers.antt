@@ -1,7 +1,7 @@
 use mathlib.Core.Path.{◌≡◌, ◌∙◌}
-use Prim.Native.Nat.{◌*◌}
+use Prim.Native.Nat.{◌+◌, ◌*◌}
 use native.Mathlib.Omega.{arith}
-use lib.ListN.{length-drop}
+use lib.ListN.{length, length-drop}
 use Rattle.lent.proofs.Lists.{part_rest}
 use Rattle.recordbytes.proofs.Bytes.{state_read}
 use Rattle.terminalbytes.proofs.record.terminal_of.Goals as goal
@@ -10,6 +10,8 @@ pub returns : goal.returns
 returns g c =
     let device = g.K.RegisterKey.device in
     let bytes = c.args.bytes.now in
-    let said = rw (c.size-at.ensures.value, part_rest (21 * device.size) bytes) at c.in_ok-rest.ensures in
+    let long : length bytes ≡ 21 * device.size + 19 = omega (arith, c.record_size.ensures) in
+    let rest = rw (c.size-at.ensures.value, part_rest (21 * device.size) bytes) at c.rest_of-rest.ensures in
+    let said = rest (rw (length-drop (21 * device.size) bytes) (omega (arith, long))) in
     let keys = rw c.size-at.ensures.value at c.registers_of-keys.ensures in
-    (omega (arith, said.0, length-drop (21 * device.size) bytes), c.new.ensures ∙ state_read device bytes keys said.1 said.2)
+    (long, c.new.ensures ∙ state_read device bytes keys said.0 said.1)

@@ -6,5 +6,5 @@ use Rattle.console.proofs.console.Console.write.Goals as goal
 pub loop-done-preserved : goal.loop-done-preserved
 loop-done-preserved g c = record {
   in_bounds = search rules;
-  written = appends_more _ _ _ c.args.bytes.now c.loop-done.done c.in_ok-done.field-0 c.loop-done.invariant.written (rw part_rest at c.in_ok-done.ensures.bytes);
+  written = appends_more _ _ _ c.args.bytes.now c.loop-done.done c.in-Ok.n c.loop-done.invariant.written (rw part_rest at c.in-Ok.ensures.bytes);
 }
